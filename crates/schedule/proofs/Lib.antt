@@ -1,0 +1,4 @@
+pub mod Integers
+pub mod Products
+pub mod Scan
+pub mod Greatest

@@ -1,0 +1,5 @@
+pub mod Joins
+pub mod Listed
+pub mod Bandings
+pub mod DailyCharges
+pub mod Charged

@@ -1,0 +1,4 @@
+use Rattle.tariff.proofs.ladder.six_band_lines.Needs as need
+
+pub returns : need.returns
+returns c = cc
