@@ -1,0 +1,5 @@
+mod Lists
+mod Enrolled
+mod Posted
+mod Kept
+mod Summed
