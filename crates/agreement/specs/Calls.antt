@@ -13,7 +13,8 @@ use Rattle.agreement.specs.declared.readings.Reading.the-variants.{Metered}
 use Rattle.agreement.specs.declared.refusals.Refusal.{Refusal}
 use Rattle.agreement.specs.declared.refusals.Refusal.the-variants.{MonthClosed, PoolFull, AccountZero, AlreadyEnrolled, RetentionTooHigh, NotEnrolled, NoSuchDay, TooManyTherms}
 use Rattle.agreement.specs.Limits.{mostMembers, mostRetention, mostTherms}
-use Rattle.agreement.specs.Refusals.{_when_, first, unless}
+use Rattle.agreement.specs.Refusals.{unless}
+use Rattle.schedule.specs.Checks.{_when_, first}
 use Rattle.agreement.specs.Months.{hasDay}
 use Rattle.agreement.specs.Book.{Book, isClosed, newMember}
 use Rattle.agreement.specs.Postings.{enrolled, onMember, onDays, withMembers, withNotice, withNomination, withReading, withReceipt}

@@ -7,7 +7,8 @@ use Rattle.std.specs.declared.result.Result.{Result}
 use Rattle.agreement.specs.declared.refusals.Refusal.{Refusal}
 use Rattle.agreement.specs.declared.refusals.Refusal.the-variants.{MonthLength}
 use Rattle.agreement.specs.Limits.{leastDays, mostDays}
-use Rattle.agreement.specs.Refusals.{_when_, first, unless}
+use Rattle.agreement.specs.Refusals.{unless}
+use Rattle.schedule.specs.Checks.{_when_, first}
 
 -- whether a month of so many days has this day; days count from 1
 abbrev pub hasDay : ℕ → ℕ → Bool

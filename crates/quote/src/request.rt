@@ -98,7 +98,7 @@ fn read_day<'a>(words: &mut SplitWhitespace<'a>) -> Result<Request, Fault<'a>> {
 }
 
 // The request of a line, or what is wrong with it.
-pub fn read_request<'a>(line: &'a str) -> Result<Request, Fault<'a>> {
+pub(crate) fn read_request<'a>(line: &'a str) -> Result<Request, Fault<'a>> {
     let mut words = line.split_whitespace();
     match words.next() {
         Some("cash-out") => read_cash_out(&mut words),

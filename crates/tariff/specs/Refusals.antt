@@ -4,7 +4,7 @@ use mathlib.Core.List.{[], _∷_}
 use Prim.Native.Nat.{ℕ}
 use lib.Dec.{eqb, ltb}
 use Rattle.std.specs.declared.option.Option.{Option}
-use Rattle.schedule.specs.Checks.{firstRefusal}
+use Rattle.schedule.specs.Checks.{_when_, first}
 use Rattle.tariff.specs.declared.refusal.Refusal.{Refusal}
 use Rattle.tariff.specs.declared.refusal.Refusal.the-variants.{PriceTooHigh, LowestAboveAverage, BadLineList, BadBandCount}
 
@@ -18,8 +18,4 @@ number BadBandCount = 46
 -- why a ladder of these is refused: not six or four bands; a price above 30,000; the lowest price above the average
 abbrev pub ladderRefusal : ℕ → ℕ → ℕ → Option Refusal
 ladderRefusal bands average lowest =
-    firstRefusal
-    ((not (eqb bands 6 || eqb bands 4), BadBandCount)
-    ∷ ((ltb 30000 average || ltb 30000 lowest, PriceTooHigh)
-    ∷ ((ltb average lowest, LowestAboveAverage)
-    ∷ [])))
+    first (BadBandCount when not (eqb bands 6 || eqb bands 4) ∷ PriceTooHigh when (ltb 30000 average || ltb 30000 lowest) ∷ LowestAboveAverage when ltb average lowest ∷ [])
