@@ -1,3 +1,8 @@
+ghost use Rattle.std.specs.declared.result.Result.the-variants.{Ok, Err};
+ghost use Rattle.std.specs.Parts.{split-whitespace-rest};
+ghost use Rattle.std.specs.Words.{dark, Without};
+ghost use lib.Chars.{codes};
+ghost use Rattle.quote.specs.Words.{NextWord, NextReads, NoticeRead, FieldsRead, ReadAs};
 use std::fmt;
 use std::str::FromStr;
 use std::str::SplitWhitespace;
@@ -32,10 +37,9 @@ pub enum Fault<'a> {
 }
 
 // The next word, which stands for what `name` says.
-fn next_word<'a>(
-    words: &mut SplitWhitespace<'a>,
-    name: &'static str,
-) -> Result<&'a str, Fault<'a>> {
+fn next_word<'a>(words: &mut SplitWhitespace<'a>, name: &'static str) -> Result<&'a str, Fault<'a>>
+    ensures { λ r. ⌜ elim r [ Ok word ↦ NextWord (split-whitespace-rest (now (words .entry))) (word .now) (split-whitespace-rest (now (words .exit))) | Err _ ↦ Unit {0} ] ⌝ }
+{
     match words.next() {
         Some(word) => Ok(word),
         None => Err(Fault::Missing(name)),
@@ -49,6 +53,7 @@ fn next_number<'a, T: FromStr>(
 ) -> Result<T, Fault<'a>>
 where
     T::Err: Drop,
+    ensures { λ r. ⌜ elim r [ Ok x ↦ NextReads (T·FromStr .reads) (split-whitespace-rest (now (words .entry))) x (split-whitespace-rest (now (words .exit))) | Err _ ↦ Unit {0} ] ⌝ }
 {
     let word = next_word(words, name)?;
     match word.parse::<T>() {
@@ -58,14 +63,18 @@ where
 }
 
 // That no word is left.
-fn end<'a>(words: &mut SplitWhitespace<'a>) -> Result<(), Fault<'a>> {
+fn end<'a>(words: &mut SplitWhitespace<'a>) -> Result<(), Fault<'a>>
+    ensures { λ r. ⌜ elim r [ Ok _ ↦ Without dark (split-whitespace-rest (now (words .entry))) | Err _ ↦ Unit {0} ] ⌝ }
+{
     match words.next() {
         Some(word) => Err(Fault::Superfluous(word)),
         None => Ok(()),
     }
 }
 
-fn read_cash_out<'a>(words: &mut SplitWhitespace<'a>) -> Result<Request, Fault<'a>> {
+fn read_cash_out<'a>(words: &mut SplitWhitespace<'a>) -> Result<Request, Fault<'a>>
+    ensures { λ r. ⌜ elim r [ Ok request ↦ FieldsRead (codes "cash-out") (split-whitespace-rest (now (words .entry))) request | Err _ ↦ Unit {0} ] ⌝ }
+{
     let bands = next_number(words, "the number of bands")?;
     let average = next_number(words, "the average price")?;
     let lowest = next_number(words, "the lowest price")?;
@@ -81,15 +90,26 @@ fn read_cash_out<'a>(words: &mut SplitWhitespace<'a>) -> Result<Request, Fault<'
     })
 }
 
-fn read_day<'a>(words: &mut SplitWhitespace<'a>) -> Result<Request, Fault<'a>> {
+// Whether the word notice stands last, or nothing.
+fn read_notice<'a>(words: &mut SplitWhitespace<'a>) -> Result<bool, Fault<'a>>
+    ensures { λ r. ⌜ elim r [ Ok notice ↦ NoticeRead (split-whitespace-rest (now (words .entry))) notice | Err _ ↦ Unit {0} ] ⌝ }
+{
+    match words.next() {
+        None => Ok(false),
+        Some("notice") => {
+            end(words)?;
+            Ok(true)
+        }
+        Some(word) => Err(Fault::Superfluous(word)),
+    }
+}
+
+fn read_day<'a>(words: &mut SplitWhitespace<'a>) -> Result<Request, Fault<'a>>
+    ensures { λ r. ⌜ elim r [ Ok request ↦ FieldsRead (codes "day") (split-whitespace-rest (now (words .entry))) request | Err _ ↦ Unit {0} ] ⌝ }
+{
     let nominated = next_number(words, "the nomination")?;
     let used = next_number(words, "the gas used")?;
-    let notice = match words.next() {
-        None => false,
-        Some("notice") => true,
-        Some(word) => return Err(Fault::Superfluous(word)),
-    };
-    end(words)?;
+    let notice = read_notice(words)?;
     Ok(Request::Day {
         nominated,
         used,
@@ -98,7 +118,9 @@ fn read_day<'a>(words: &mut SplitWhitespace<'a>) -> Result<Request, Fault<'a>> {
 }
 
 // The request of a line, or what is wrong with it.
-pub(crate) fn read_request<'a>(line: &'a str) -> Result<Request, Fault<'a>> {
+pub fn read_request<'a>(line: &'a str) -> Result<Request, Fault<'a>>
+    ensures { λ r. ⌜ elim r [ Ok request ↦ ReadAs (now (line .entry)) request | Err _ ↦ Unit {0} ] ⌝ }
+{
     let mut words = line.split_whitespace();
     match words.next() {
         Some("cash-out") => read_cash_out(&mut words),
