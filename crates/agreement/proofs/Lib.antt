@@ -1,2 +1,5 @@
 pub mod Accepted
 pub mod Running
+pub mod Sizes
+pub mod Rounding
+pub mod Fairness

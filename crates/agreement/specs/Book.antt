@@ -44,6 +44,11 @@ abbrev pub isClosed : Status → Bool
 isClosed Open = false
 isClosed Closed = true
 
+-- whether a day has no read
+abbrev pub isUnread : Reading → Bool
+isUnread Unread = true
+isUnread (Metered therms) = false
+
 -- the gas that a reading counts for
 abbrev pub thermsOf : Reading → ℕ
 thermsOf Unread = 0

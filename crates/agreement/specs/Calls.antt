@@ -8,16 +8,18 @@ use Rattle.std.specs.declared.option.Option.{Option}
 use Rattle.std.specs.declared.option.Option.the-variants.{Some, None}
 use Rattle.std.specs.declared.result.Result.{Result}
 use Rattle.agreement.specs.declared.calls.Call.{Call}
-use Rattle.agreement.specs.declared.calls.Call.the-variants.{Enrol, Nominate, Read, Receive, Notify}
+use Rattle.agreement.specs.declared.calls.Call.the-variants.{Enrol, Nominate, Read, Receive, Notify, Close}
 use Rattle.agreement.specs.declared.readings.Reading.the-variants.{Metered}
 use Rattle.agreement.specs.declared.refusals.Refusal.{Refusal}
-use Rattle.agreement.specs.declared.refusals.Refusal.the-variants.{MonthClosed, PoolFull, AccountZero, AlreadyEnrolled, RetentionTooHigh, NotEnrolled, NoSuchDay, TooManyTherms}
+use Rattle.agreement.specs.declared.refusals.Refusal.the-variants.{MonthClosed, PoolFull, AccountZero, AlreadyEnrolled, RetentionTooHigh, NotEnrolled, NoSuchDay, TooManyTherms, NoMember}
+use Rattle.agreement.specs.declared.status.Status.the-variants.{Closed}
 use Rattle.agreement.specs.Limits.{mostMembers, mostRetention, mostTherms}
 use Rattle.agreement.specs.Refusals.{unless}
 use Rattle.schedule.specs.Checks.{_when_, first}
 use Rattle.agreement.specs.Months.{hasDay}
+use Rattle.agreement.specs.Missing.{missingRead}
 use Rattle.agreement.specs.Book.{Book, isClosed, newMember}
-use Rattle.agreement.specs.Postings.{enrolled, onMember, onDays, withMembers, withNotice, withNomination, withReading, withReceipt}
+use Rattle.agreement.specs.Postings.{enrolled, onMember, onDays, withMembers, withNotice, withNomination, withReading, withReceipt, withStatus}
 
 -- the checks of a posting of gas to an account and a day: nominate, read and receive have the same
 abbrev pub postingChecks : ℕ → ℕ → ℕ → Book → List (Option Refusal)
@@ -44,6 +46,11 @@ checks (Notify day) book =
     MonthClosed when isClosed (book .status)
     ∷ NoSuchDay when not (hasDay day (book .days))
     ∷ []
+checks Close book =
+    MonthClosed when isClosed (book .status)
+    ∷ NoMember when eqb (length (book .members)) 0
+    ∷ missingRead (book .members)
+    ∷ []
 
 -- why a call is refused, if it is
 abbrev pub refusal : Call → Book → Option Refusal
@@ -56,6 +63,7 @@ accepted (Nominate account day therms) book = withMembers (onMember account (onD
 accepted (Read account day therms) book = withMembers (onMember account (onDays (λ n. eqb day n) (withReading (Metered therms)))) book
 accepted (Receive account day therms) book = withMembers (onMember account (onDays (λ n. eqb day n) (withReceipt therms))) book
 accepted (Notify day) book = withNotice day book
+accepted Close book = withStatus Closed book
 
 -- the book where a call is refused, and where it is not
 abbrev pub unlessRefused : Option Refusal → Book → Book → Book

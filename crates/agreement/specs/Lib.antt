@@ -3,6 +3,13 @@ pub mod Refusals
 pub mod Months
 pub mod Book
 pub mod Postings
+pub mod Missing
 pub mod Calls
 pub mod Runs
 pub mod Gases
+pub mod Sums
+pub mod Charges
+pub mod Shares
+pub mod Cents
+pub mod Bills
+pub mod FairSplit

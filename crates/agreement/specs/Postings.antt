@@ -1,10 +1,11 @@
--- How a posting changes the plain book: one member's days, or a notice. Assumes nothing.
+-- How a call changes the plain book: its members, the days of one of them, a notice, or the status. Assumes nothing.
 use mathlib.Core.Bool.{Bool, true, false, cond, _||_}
 use mathlib.Core.List.{List, [], _∷_}
 use Prim.Native.Nat.{ℕ, _+_, _-_}
 use lib.Dec.{eqb}
 use lib.ListN.{set}
 use Rattle.agreement.specs.declared.readings.Reading.{Reading}
+use Rattle.agreement.specs.declared.status.Status.{Status}
 use Rattle.agreement.specs.Book.{Book, Day, Member}
 
 -- whether a member has this account number
@@ -29,6 +30,10 @@ withMembers change book = record { days = book .days; members = change (book .me
 -- a book with notice on a day
 abbrev pub withNotice : ℕ → Book → Book
 withNotice day book = record { days = book .days; members = book .members; notices = set (book .notices) (day - 1) true; status = book .status }
+
+-- a book with another status
+abbrev pub withStatus : Status → Book → Book
+withStatus new book = record { days = book .days; members = book .members; notices = book .notices; status = new }
 
 -- a member with its chosen days changed; days count from 1
 abbrev pub onDays : (ℕ → Bool) → (Day → Day) → Member → Member

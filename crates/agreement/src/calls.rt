@@ -11,4 +11,6 @@ pub enum Call {
     Receive { account: u32, day: u8, therms: u32 },
     // Marks a day on which the utility told the pool to stay within its nomination.
     Notify { day: u8 },
+    // Ends the month.
+    Close,
 }

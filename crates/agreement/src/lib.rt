@@ -1,5 +1,6 @@
 // What a pool's agreement promises, apart from any code that keeps it: the calls of a month, why a call is
 // refused, and the limits. The plain book, from which every call is answered, stands in specs/.
+mod bills;
 mod calls;
 mod days;
 mod gas;
@@ -8,6 +9,7 @@ mod readings;
 mod refusals;
 mod status;
 
+pub use bills::Bill;
 pub use calls::Call;
 pub use days::Days;
 pub use gas::Gas;

@@ -1,6 +1,6 @@
 // What a member's meter gave for a day.
 ghost use mathlib.Core.Path.{_≡_};
-ghost use Rattle.agreement.specs.Book.{thermsOf};
+ghost use Rattle.agreement.specs.Book.{isUnread, thermsOf};
 
 #[derive(Clone, Copy)]
 pub enum Reading {
@@ -9,6 +9,15 @@ pub enum Reading {
 }
 
 impl Reading {
+    pub fn is_unread(self) -> bool
+        ensures { λ r. ⌜ r ≡ isUnread self ⌝ }
+    {
+        match self {
+            Reading::Unread => true,
+            Reading::Metered { .. } => false,
+        }
+    }
+
     // The gas that the reading counts for.
     pub fn therms(self) -> u32
         ensures { λ r. ⌜ r ≡ thermsOf self ⌝ }

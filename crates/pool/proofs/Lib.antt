@@ -3,3 +3,10 @@ mod Enrolled
 mod Posted
 mod Kept
 mod Summed
+mod Missing
+mod Filling
+mod Words
+mod Small
+mod Turns
+mod Questioned
+mod Settling

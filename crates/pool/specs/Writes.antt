@@ -6,7 +6,7 @@ use lib.ListN.{set, replicate}
 use lib.Seq.{paste}
 use Rattle.agreement.specs.declared.readings.Reading.{Reading}
 use Rattle.agreement.specs.declared.readings.Reading.the-variants.{Unread}
-use Rattle.agreement.specs.declared.status.Status.the-variants.{Open}
+use Rattle.agreement.specs.declared.status.Status.the-variants.{Open, Closed}
 use Rattle.agreement.specs.Limits.{mostDays, mostMembers}
 use Rattle.pool.specs.Contents.{Contents, cellAt}
 
@@ -41,3 +41,7 @@ setReceipt place day therms t = withCells (t .nominations) (t .readings) (set (t
 -- a notice on a day, counted from 1
 abbrev pub setNotice : ℕ → Contents → Contents
 setNotice day t = record { days = t .days; status = t .status; count = t .count; accounts = t .accounts; retentions = t .retentions; nominations = t .nominations; readings = t .readings; receipts = t .receipts; notices = set (t .notices) (day - 1) true }
+
+-- the end of the month
+abbrev pub setClosed : Contents → Contents
+setClosed t = record { days = t .days; status = Closed; count = t .count; accounts = t .accounts; retentions = t .retentions; nominations = t .nominations; readings = t .readings; receipts = t .receipts; notices = t .notices }

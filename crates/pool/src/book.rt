@@ -75,4 +75,13 @@ impl<M: Schedule, D: Schedule, O: Schedule> PoolBook<M, D, O> {
     {
         self.table.notify(day)
     }
+
+    // Ends the month, once every member has a read for every day.
+    pub fn close(&mut self) -> Result<(), Refusal>
+        ensures book { λ r. ⌜ plain (now (self .exit) .table) ≡ after Call.Close (plain (now (self .entry) .table)) ⌝ }
+        ensures answers { λ r. ⌜ r ≡ answer Call.Close (plain (now (self .entry) .table)) ⌝ }
+        ensures schedules { λ r. ⌜ now (self .exit) .month ≡ now (self .entry) .month ⌝ ∗ ⌜ now (self .exit) .day ≡ now (self .entry) .day ⌝ ∗ ⌜ now (self .exit) .overrun ≡ now (self .entry) .overrun ⌝ }
+    {
+        self.table.close()
+    }
 }

@@ -18,7 +18,7 @@ use agreement::Refusal;
 
 impl Table {
     // The place of the member with this account.
-    fn place(&self, account: u32) -> Option<usize>
+    pub(crate) fn place(&self, account: u32) -> Option<usize>
         ensures { λ r. ⌜ Places (now (self .entry)) account r ⌝ }
     {
         self.first_with(account)

@@ -4,7 +4,7 @@ ghost use Prim.Native.Nat.{_≤_, _<_, _+_, _-_};
 ghost use lib.ListN.{length};
 ghost use Rattle.agreement.specs.Limits.{mostMembers, mostRetention, mostTherms};
 ghost use Rattle.pool.specs.Contents.{contents, cellAt};
-ghost use Rattle.pool.specs.Writes.{empty, addMember, filled, setNominations, setReading, setReceipt, setNotice};
+ghost use Rattle.pool.specs.Writes.{empty, addMember, filled, setNominations, setReading, setReceipt, setNotice, setClosed};
 use crate::table::CELLS;
 use crate::table::ROW;
 use crate::table::Table;
@@ -93,6 +93,13 @@ impl Table {
         ensures { λ _. ⌜ contents (now (self .exit)) ≡ setNotice day (contents (now (self .entry))) ⌝ }
     {
         self.notices[day as usize - 1] = true;
+    }
+
+    // The end of the month.
+    pub(crate) fn set_closed(&mut self)
+        ensures { λ _. ⌜ contents (now (self .exit)) ≡ setClosed (contents (now (self .entry))) ⌝ }
+    {
+        self.status = Status::Closed;
     }
 }
 

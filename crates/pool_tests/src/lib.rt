@@ -11,6 +11,7 @@ mod tests {
     use agreement::Refusal;
     use agreement::RefusalDebug;
     use agreement::RefusalPartialEq;
+    use pool::Outcome;
     use pool::PoolBook;
     use schedule::Line;
     use schedule::Schedule;
@@ -91,6 +92,63 @@ mod tests {
     }
 
     #[test]
+    fn a_pool_without_members_is_not_closed() -> Result<(), Fail> {
+        let Ok(days) = Days::check(28) else {
+            return Err(Fail::new("days"));
+        };
+        let mut book = PoolBook::new(days, Free, Free, Free);
+        check_eq(book.close(), Err(Refusal::NoMember))?;
+        check_eq(Refusal::NoMember.number(), 22)?;
+        check_eq(book.enrol(101, 0), Ok(()))
+    }
+
+    #[test]
+    fn a_month_closes_once_every_day_is_read() -> Result<(), Fail> {
+        let Ok(days) = Days::check(28) else {
+            return Err(Fail::new("days"));
+        };
+        let mut book = PoolBook::new(days, Free, Free, Free);
+        check_eq(book.enrol(101, 0), Ok(()))?;
+        for day in 1..28u8 {
+            check_eq(book.read(101, day, 0), Ok(()))?;
+        }
+        check_eq(
+            book.close(),
+            Err(Refusal::ReadMissing { member: 1, day: 28 }),
+        )?;
+        check_eq(book.read(101, 28, 900), Ok(()))?;
+        check_eq(book.close(), Ok(()))?;
+        check_eq(book.enrol(102, 0), Err(Refusal::MonthClosed))?;
+        check_eq(book.nominate(101, 1, 900), Err(Refusal::MonthClosed))?;
+        check_eq(book.read(101, 1, 900), Err(Refusal::MonthClosed))?;
+        check_eq(book.receive(101, 1, 900), Err(Refusal::MonthClosed))?;
+        check_eq(book.notify(1), Err(Refusal::MonthClosed))?;
+        check_eq(book.close(), Err(Refusal::MonthClosed))
+    }
+
+    #[test]
+    fn the_first_missing_read_is_named() -> Result<(), Fail> {
+        let Ok(days) = Days::check(31) else {
+            return Err(Fail::new("days"));
+        };
+        let mut book = PoolBook::new(days, Free, Free, Free);
+        check_eq(book.enrol(101, 0), Ok(()))?;
+        check_eq(book.enrol(102, 0), Ok(()))?;
+        check_eq(
+            book.close(),
+            Err(Refusal::ReadMissing { member: 1, day: 1 }),
+        )?;
+        for day in 1..32u8 {
+            check_eq(book.read(101, day, 0), Ok(()))?;
+        }
+        check_eq(book.read(102, 1, 0), Ok(()))?;
+        check_eq(
+            book.close(),
+            Err(Refusal::ReadMissing { member: 2, day: 2 }),
+        )
+    }
+
+    #[test]
     fn a_list_of_calls_is_answered_in_order(rt: LibcRuntime) -> Result<(), Fail> {
         let Ok(days) = Days::check(28) else {
             return Err(Fail::new("days"));
@@ -111,7 +169,11 @@ mod tests {
                 therms: 900,
             },
         ];
-        let answers = book.run(rt.alloc(), &calls)?;
+        let Outcome {
+            answers,
+            settlement,
+        } = book.run(rt.alloc(), &calls)?;
+        check(settlement.is_err())?;
         check(answers.len() == 3)?;
         check_eq(answers[0], Ok(()))?;
         check_eq(answers[1], Err(Refusal::AlreadyEnrolled))?;

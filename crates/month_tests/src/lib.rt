@@ -1,0 +1,161 @@
+// Whole months, closed and settled: over the product's schedules, and over schedules of the tests' own making.
+ghost use mathlib.Core.List.{[], _∷_};
+ghost use mathlib.Core.Path.{refl};
+ghost use lib.IntN.{pos};
+ghost use Rattle.schedule.specs.Lines.{line};
+
+#[cfg(test)]
+mod tests {
+    use agreement::Call;
+    use agreement::Days;
+    use agreement::Refusal;
+    use agreement::RefusalDebug;
+    use agreement::RefusalPartialEq;
+    use pool::Outcome;
+    use pool::PoolBook;
+    use schedule::Line;
+    use schedule::Schedule;
+    use schedule::first_greatest;
+    use std::test::*;
+    use tariff::Ladder;
+    use tariff::LadderSchedule;
+    use tariff::Overrun;
+    use tariff::OverrunSchedule;
+    use tariff::Tolerance;
+    use tariff::ToleranceSchedule;
+
+    // Charges nothing.
+    #[derive(Clone, Copy)]
+    struct Free;
+
+    impl Schedule for Free as FreeSchedule {
+        ghost lines = { λ _. line (pos 0) (pos 0) ∷ [] };
+
+        ghost lawful = { λ _. refl };
+
+        fn line_at(&self, difference: i64, base: u64) -> Line {
+            first_greatest(&[Line { a: 0, b: 0 }], difference, base)
+        }
+    }
+
+    // Charges 16 grains a thousandth of a therm of the base.
+    #[derive(Clone, Copy)]
+    struct OnBase;
+
+    impl Schedule for OnBase as OnBaseSchedule {
+        ghost lines = { λ _. line (pos 0) (pos 16) ∷ [] };
+
+        ghost lawful = { λ _. refl };
+
+        fn line_at(&self, difference: i64, base: u64) -> Line {
+            first_greatest(&[Line { a: 0, b: 16 }], difference, base)
+        }
+    }
+
+    // Enrols a member that nominates and uses so much on day 1 of 28, and nothing on every later day.
+    fn enrol_and_read<M: Schedule, D: Schedule, O: Schedule>(
+        book: &mut PoolBook<M, D, O>,
+        account: u32,
+        therms: u32,
+    ) -> Result<(), Refusal> {
+        book.enrol(account, 0)?;
+        book.nominate(account, 1, therms)?;
+        book.nominate(account, 2, 0)?;
+        book.read(account, 1, therms)?;
+        for day in 2..29u8 {
+            book.read(account, day, 0)?;
+        }
+        Ok(())
+    }
+
+    #[test]
+    fn two_members_share_a_cash_out(rt: LibcRuntime) -> Result<(), Fail> {
+        let Ok(days) = Days::check(28) else {
+            return Err(Fail::new("days"));
+        };
+        let Ok(ladder) = Ladder::new(6, 5_000, 4_000) else {
+            return Err(Fail::new("ladder"));
+        };
+        let mut book = PoolBook::new(days, ladder, Tolerance, Overrun);
+        check_eq(enrol_and_read(&mut book, 101, 1_000), Ok(()))?;
+        check_eq(enrol_and_read(&mut book, 102, 1_000), Ok(()))?;
+        let calls = [
+            Call::Receive {
+                account: 101,
+                day: 1,
+                therms: 900,
+            },
+            Call::Receive {
+                account: 102,
+                day: 1,
+                therms: 1_020,
+            },
+            Call::Close,
+        ];
+        let Outcome {
+            answers,
+            settlement,
+        } = book.run(rt.alloc(), &calls)?;
+        check(answers.len() == 3)?;
+        let Ok(settlement) = settlement else {
+            return Err(Fail::new("not closed"));
+        };
+        let bills = settlement.bills();
+        check(bills.len() == 2)?;
+        check_eq(bills[0].account, 101)?;
+        check_eq(bills[0].cash_out, 215_000_000_000)?;
+        check_eq(bills[0].cents, 5_375)?;
+        check_eq(bills[1].account, 102)?;
+        check_eq(bills[1].cents, -1_225)?;
+        check_eq(settlement.total_cents(), 4_150)
+    }
+
+    #[test]
+    fn small_shares_are_rounded_by_running_totals() -> Result<(), Fail> {
+        let Ok(days) = Days::check(28) else {
+            return Err(Fail::new("days"));
+        };
+        let mut book = PoolBook::new(days, OnBase, Free, Free);
+        for account in 1..4u32 {
+            check_eq(enrol_and_read(&mut book, account, 1_000), Ok(()))?;
+        }
+        check(book.settle().is_err())?;
+        check_eq(book.close(), Ok(()))?;
+        let Ok(settlement) = book.settle() else {
+            return Err(Fail::new("not closed"));
+        };
+        let bills = settlement.bills();
+        check(bills.len() == 3)?;
+        check_eq(bills[0].cents, 0)?;
+        check_eq(bills[1].cents, 1)?;
+        check_eq(bills[2].cents, 0)?;
+        check_eq(settlement.total_cents(), 1)
+    }
+
+    #[test]
+    fn shares_are_asked_for_once_the_month_is_closed() -> Result<(), Fail> {
+        let Ok(days) = Days::check(28) else {
+            return Err(Fail::new("days"));
+        };
+        let mut book = PoolBook::new(days, Free, Tolerance, Overrun);
+        check_eq(book.enrol(7, 0), Ok(()))?;
+        check_eq(book.nominate(7, 1, 1_000), Ok(()))?;
+        check_eq(book.read(7, 1, 1_101), Ok(()))?;
+        for day in 2..29u8 {
+            check_eq(book.read(7, day, 1_000), Ok(()))?;
+        }
+        check_eq(book.notify(1), Ok(()))?;
+        check(book.shares(7).is_err())?;
+        check_eq(book.close(), Ok(()))?;
+        let Ok(bill) = book.shares(7) else {
+            return Err(Fail::new("no bill"));
+        };
+        check_eq(bill.balancing, 100_000_000)?;
+        check_eq(bill.overrun, 12_000_000_000)?;
+        check_eq(bill.cents, 303)?;
+        match book.shares(8) {
+            Ok(_) => Err(Fail::new("not enrolled")),
+            Err(refusal) => check_eq(refusal.number(), 16),
+        }
+    }
+}
