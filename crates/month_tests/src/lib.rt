@@ -110,6 +110,67 @@ mod tests {
         check_eq(settlement.total_cents(), 4_150)
     }
 
+    // The cents of two members that nominate and use 1,000 therms on day 1, and receive so much, and their total.
+    fn cents_of_two(first: u32, second: u32) -> Result<[i64; 3], Fail> {
+        let Ok(days) = Days::check(28) else {
+            return Err(Fail::new("days"));
+        };
+        let Ok(ladder) = Ladder::new(6, 5_000, 4_000) else {
+            return Err(Fail::new("ladder"));
+        };
+        let mut book = PoolBook::new(days, ladder, Tolerance, Overrun);
+        check_eq(enrol_and_read(&mut book, 101, 1_000), Ok(()))?;
+        check_eq(enrol_and_read(&mut book, 102, 1_000), Ok(()))?;
+        check_eq(book.receive(101, 1, first), Ok(()))?;
+        check_eq(book.receive(102, 1, second), Ok(()))?;
+        check_eq(book.close(), Ok(()))?;
+        let Ok(settlement) = book.settle() else {
+            return Err(Fail::new("not closed"));
+        };
+        let bills = settlement.bills();
+        check(bills.len() == 2)?;
+        Ok([bills[0].cents, bills[1].cents, settlement.total_cents()])
+    }
+
+    #[test]
+    fn pools_all_short_and_all_long() -> Result<(), Fail> {
+        check_eq(cents_of_two(960, 980)?, [2_075, 975, 3_050])?;
+        check_eq(cents_of_two(1_020, 1_040)?, [-820, -1_540, -2_360])?;
+        check_eq(cents_of_two(1_000, 1_000)?, [0, 0, 0])
+    }
+
+    // Forty members that use 50,000 therms on each of thirty-one notified days, and nominate and receive nothing.
+    #[test]
+    fn a_full_pool_at_the_limits() -> Result<(), Fail> {
+        let Ok(days) = Days::check(31) else {
+            return Err(Fail::new("days"));
+        };
+        let Ok(ladder) = Ladder::new(6, 30_000, 30_000) else {
+            return Err(Fail::new("ladder"));
+        };
+        let mut book = PoolBook::new(days, ladder, Tolerance, Overrun);
+        for account in 1..41u32 {
+            check_eq(book.enrol(account, 50), Ok(()))?;
+            for day in 1..32u8 {
+                check_eq(book.read(account, day, 50_000), Ok(()))?;
+            }
+        }
+        for day in 1..32u8 {
+            check_eq(book.notify(day), Ok(()))?;
+        }
+        check_eq(book.close(), Ok(()))?;
+        let Ok(settlement) = book.settle() else {
+            return Err(Fail::new("not closed"));
+        };
+        let bills = settlement.bills();
+        check(bills.len() == 40)?;
+        check_eq(bills[39].cash_out, 27_202_500_000_000_000)?;
+        check_eq(bills[39].balancing, 155_000_000_000_000)?;
+        check_eq(bills[39].overrun, 18_600_000_000_000_000)?;
+        check_eq(bills[39].cents, 1_148_937_500)?;
+        check_eq(settlement.total_cents(), 45_957_500_000)
+    }
+
     #[test]
     fn small_shares_are_rounded_by_running_totals() -> Result<(), Fail> {
         let Ok(days) = Days::check(28) else {
