@@ -6,7 +6,7 @@ mod Summed
 mod Missing
 mod Filling
 mod Words
-mod Small
+pub mod Small
 mod Turns
 mod Questioned
 mod Settling

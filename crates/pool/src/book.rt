@@ -31,6 +31,13 @@ impl<M: Schedule, D: Schedule, O: Schedule> PoolBook<M, D, O> {
         }
     }
 
+    // The number of days of the month.
+    pub fn days(&self) -> u8
+        ensures { λ r. ⌜ r ≡ plain (now (self .entry) .table) .days ⌝ }
+    {
+        self.table.days.count()
+    }
+
     // Adds a member with an account number and a retention in tenths of a percent.
     pub fn enrol(&mut self, account: u32, retention: u8) -> Result<(), Refusal>
         ensures book { λ r. ⌜ plain (now (self .exit) .table) ≡ after (Call.Enrol account retention) (plain (now (self .entry) .table)) ⌝ }

@@ -1,0 +1,12 @@
+pub mod Limits
+pub mod Refusals
+pub mod Places
+pub mod Order
+pub mod Keepings
+pub mod Rounding
+pub mod Sheets
+pub mod Gas
+pub mod Bills
+pub mod Late
+pub mod Accounts
+pub mod Runs

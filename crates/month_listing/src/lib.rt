@@ -1,0 +1,4 @@
+// From the bytes of a month file to what is printed of them.
+mod printing;
+
+pub use printing::list_month;
