@@ -120,6 +120,20 @@ mod tests {
     }
 
     #[test]
+    fn pools_without_a_member_and_with_one_too_many(rt: LibcRuntime) -> Result<(), Fail> {
+        let mut file = Vec::new(rt.alloc());
+        file.extend_from_slice(&START)?;
+        file.extend_from_slice(&[0, 1, b'C'])?;
+        check_eq(fault_of(&file), fault(3, 22, 2, 14))?;
+        let mut file = Vec::new(rt.alloc());
+        file.extend_from_slice(&START)?;
+        for account in 1..42u8 {
+            file.extend_from_slice(&[0, 6, b'E', 0, 0, 0, account, 50])?;
+        }
+        check_eq(fault_of(&file), fault(3, 12, 42, 334))
+    }
+
+    #[test]
     fn a_missing_read_has_its_member_and_day(rt: LibcRuntime) -> Result<(), Fail> {
         let told = fault_of_third(rt, &[0, 1, b'C'])?;
         check_eq(
