@@ -1,5 +1,7 @@
 // What a pool's agreement promises, apart from any code that keeps it: the calls of a month, why a call is
 // refused, and the limits. The plain book, from which every call is answered, stands in specs/.
+#![tactic(auto)]
+
 mod bills;
 mod calls;
 mod days;

@@ -1,4 +1,6 @@
 // Rate sheets, bills, accounts and the late charge, kept by number in memory that the caller lends.
+#![tactic(auto)]
+
 mod account;
 mod bill;
 mod entries;

@@ -1,4 +1,6 @@
 // Worked examples of sheets, bills and accounts.
+#![tactic(auto)]
+
 #[cfg(test)]
 mod tests {
     use billing::{

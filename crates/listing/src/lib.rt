@@ -1,4 +1,6 @@
 // What is printed of a month: the bills of a closed one, that it is open, or the fault of a file.
+#![tactic(auto)]
+
 mod block;
 mod listing;
 

@@ -1,4 +1,6 @@
 // Reads a month file into a pool book.
+#![tactic(auto)]
+
 mod book;
 mod file;
 mod posting;

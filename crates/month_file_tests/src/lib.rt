@@ -1,4 +1,6 @@
 // The edges of a month file, run: every fault with its six numbers, and the listing of a whole month.
+#![tactic(auto)]
+
 #[cfg(test)]
 mod tests {
     use month_file::read_month;

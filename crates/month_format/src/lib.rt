@@ -1,5 +1,7 @@
 // The format of a month file: how its records lie in its bytes, what each record says, and why bytes or a record are
 // refused.
+#![tactic(auto)]
+
 mod errors;
 mod fault;
 mod frames;

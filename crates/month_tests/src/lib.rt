@@ -1,4 +1,6 @@
 // Whole months, closed and settled: over the product's schedules, and over schedules of the tests' own making.
+#![tactic(auto)]
+
 ghost use Rattle.std.specs.Prelude.{[], ◌∷◌, pos, negsuc, refl};
 ghost use Rattle.schedule.specs.Lines.{line};
 

@@ -1,4 +1,6 @@
 // The pool book: a month of a pool's members, kept as the agreement's plain book says.
+#![tactic(auto)]
+
 mod book;
 mod calls;
 mod closing;

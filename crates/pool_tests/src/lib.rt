@@ -1,4 +1,6 @@
 // The edges of the pool book's calls, run.
+#![tactic(auto)]
+
 ghost use Rattle.std.specs.Prelude.{[], ◌∷◌, pos, refl};
 ghost use Rattle.schedule.specs.Lines.{line};
 

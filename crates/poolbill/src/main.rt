@@ -1,4 +1,6 @@
 // Prints the listing of the month file on standard input.
+#![tactic(auto)]
+
 use listing::BLOCK;
 use month_format::MOST_BYTES;
 use month_listing::list_month;

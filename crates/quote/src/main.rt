@@ -1,4 +1,6 @@
 // Quotes charges: reads requests, one a line, and prints for each the account of its charge.
+#![tactic(auto)]
+
 mod account;
 mod dollars;
 mod request;

@@ -15,10 +15,10 @@ pub struct Charge {
 
 // Puts the question to a schedule, and charges what the answered line gives.
 pub fn charge_at<S: Schedule>(schedule: &S, difference: i64, base: u64) -> Charge
-    ensures line { result.line ≡ answer difference base (lines schedule.now) }
+    ensures line { result.line ≡ answer difference base (S.lines schedule.now) }
     ensures grains { result.grains ≡ amount difference base result.line }
-    ensures fixed { Fixed difference base (lines schedule.now) result.line result.grains }
-    ensures pooling { PoolingSaves (lines schedule.now) }
+    ensures fixed { Fixed difference base (S.lines schedule.now) result.line result.grains }
+    ensures pooling { PoolingSaves (S.lines schedule.now) }
 {
     let line = schedule.line_at(difference, base);
     Charge {

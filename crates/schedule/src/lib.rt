@@ -1,4 +1,6 @@
 // Charge schedules: what one means, the question that every one of them answers, and the charge that the answer fixes.
+#![tactic(auto)]
+
 mod answer;
 mod charge;
 mod line;

@@ -1,5 +1,7 @@
 // Prints members' statements: reads rate sheets, members, bills, payments and late charges, one a line, and prints what
 // each comes to and the member's balance after it.
+#![tactic(auto)]
+
 mod desk;
 mod dollars;
 mod request;

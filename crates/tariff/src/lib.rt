@@ -1,5 +1,7 @@
 // The schedules of the product: the cash-out ladder, the daily tolerance, the overrun, a supplier's own list of lines,
 // and the greater of any two.
+#![tactic(auto)]
+
 mod greater_of;
 mod ladder;
 mod line_list;

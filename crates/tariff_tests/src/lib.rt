@@ -1,4 +1,6 @@
 // Worked examples of the schedules, and a schedule of another maker's.
+#![tactic(auto)]
+
 ghost use Rattle.tariff_tests.specs.Standing.{standing_lines, standing_lawful};
 
 use schedule::{Line, Schedule, first_greatest};

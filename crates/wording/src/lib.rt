@@ -1,4 +1,6 @@
 // A line of text read word by word, and an amount of money in dollars.
+#![tactic(auto)]
+
 mod dollars;
 mod words;
 

@@ -4,8 +4,8 @@ use Rattle.std.proofs.lemmas.Int.{to_z-of_z}
 use Rattle.schedule.proofs.Products.{product_small, product_fits, widened32, same_product}
 use Rattle.schedule.proofs.line.times.Goals as goal
 
-pub overflow-mul-result : goal.overflow-mul-result
-overflow-mul-result c =
+pub overflow_mul-result : goal.overflow_mul-result
+overflow_mul-result c =
     let e = same_product _ _ _ _ (widened32 c.args.rate c.ranges.rate) (to_z-of_z w128 c.args.quantity c.ranges.quantity) in
     subst (SFits w128) (sym e) (product_fits c.args.rate c.args.quantity c.ranges.rate c.requires)
 

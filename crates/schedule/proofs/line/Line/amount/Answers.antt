@@ -3,8 +3,8 @@ use Rattle.std.proofs.lemmas.Int.{ints, to_z-of_z}
 use Rattle.schedule.proofs.Products.{widened64, widened, same_product, summed}
 use Rattle.schedule.proofs.line.Line.amount.Goals as goal
 
-pub overflow-add-result : goal.overflow-add-result
-overflow-add-result c = omega (arith, ints, c.times.ensures.bound, c.times-2.ensures.bound)
+pub overflow_add-result : goal.overflow_add-result
+overflow_add-result c = omega (arith, ints, c.times.ensures.bound, c.times-2.ensures.bound)
 
 pub returns : goal.returns
 returns c =
