@@ -8,6 +8,6 @@ returns c =
     let file = c.args.file.now in
     let some : 1 ≤ length file = search rules in
     record {
-      value = ap Ok (take_rest file 1) ∙ sym (passed (ltb 65536 (length file)) _ _ (le-ltb 65536 (length file) c.if-file-gt-MOST-BYTES.false) ∙ took (eqb (get_or file 0 0) 1) _ _ (eq-eqb (get_or file 0 0) 1 c.if-version-ne-VERSION.false));
-      shorter = (omega (arith, ap length (take_rest file 1), length-drop 1 file), c.if-file-gt-MOST-BYTES.false);
+      value = ap Ok (take_rest file 1) ∙ sym (passed (ltb 65536 (length file)) _ _ (le-ltb 65536 (length file) c.if-file-gt-MOST_BYTES.false) ∙ took (eqb (get_or file 0 0) 1) _ _ (eq-eqb (get_or file 0 0) 1 c.if-version-ne-VERSION.false));
+      shorter = (omega (arith, ap length (take_rest file 1), length-drop 1 file), c.if-file-gt-MOST_BYTES.false);
     }
