@@ -7,8 +7,8 @@ use Rattle.agreement.specs.declared.bills.Bill.{Bill}
 use Rattle.listing.specs.Listing.{bill_line}
 use Rattle.listing.proofs.listing.put_bills.Goals as goal
 
-pub put-bill-end-requires : goal.put-bill-end-requires
-put-bill-end-requires c = omega (arith, c.loop-bill.invariant.1, c.loop-bill-test.true, c.requires, before c.loop-bill.invariant.0)
+pub put_bill-end-requires : goal.put_bill-end-requires
+put_bill-end-requires c = omega (arith, c.loop-bill.invariant.1, c.loop-bill-test.true, c.requires, before c.loop-bill.invariant.0)
 
 pub loop-bill-init : goal.loop-bill-init
 loop-bill-init c = (record { block = written_none c.args.at c.args.block.now; end = omega arith; fits = omega (arith, c.requires) }, omega arith)
@@ -19,9 +19,9 @@ loop-bill-preserved c =
     let i = c.loop-bill.bill-index in
     let none : Bill = record { account = 0; cash_out = pos 0; balancing = pos 0; overrun = pos 0; cents = pos 0 } in
     let bill : Bill = get_or bills i none in
-    let s = more c.loop-bill.invariant.0 (bill_line bill) c.put-bill-end.new.block c.put-bill-end.result c.put-bill-end.ensures.block c.put-bill-end.ensures.end (omega (arith, c.requires, before c.loop-bill.invariant.0, c.loop-bill-test.true, c.put-bill-end.ensures.end, c.put-bill-end.ensures.short, c.loop-bill.invariant.1)) in
+    let s = more c.loop-bill.invariant.0 (bill_line bill) c.put_bill-end.new.block c.put_bill-end.result c.put_bill-end.ensures.block c.put_bill-end.ensures.end (omega (arith, c.requires, before c.loop-bill.invariant.0, c.loop-bill-test.true, c.put_bill-end.ensures.end, c.put_bill-end.ensures.short, c.loop-bill.invariant.1)) in
     let e : flat_map bill_line (take i bills) ++ bill_line bill ≡ flat_map bill_line (take (i + 1) bills) = flat_map_more bill_line [] (take i bills) bill ∙ ap (flat_map bill_line) (sym (take_more bills i none c.loop-bill-test.true)) in
-    (subst (λ t. Sofar c.args.at c.args.block.now t c.put-bill-end.new.block c.put-bill-end.result) e s, omega (arith, c.put-bill-end.ensures.short, c.loop-bill.invariant.1))
+    (subst (λ t. Sofar c.args.at c.args.block.now t c.put_bill-end.new.block c.put_bill-end.result) e s, omega (arith, c.put_bill-end.ensures.short, c.loop-bill.invariant.1))
 
 pub returns : goal.returns
 returns c =

@@ -6,7 +6,7 @@ use Rattle.listing.proofs.listing.put_head.Goals as goal
 
 pub returns : goal.returns
 returns c =
-    let s1 = start 0 c.args.block.now (decimal c.args.days ++ (32 ∷ [])) c.put-field-at.new.block c.put-field-at.result c.put-field-at.ensures.block c.put-field-at.ensures.end (omega (arith, c.told-block, c.put-field-at.ensures.end, c.put-field-at.ensures.short)) in
-    let s2 = more s1 (decimal c.args.members ++ (10 ∷ [])) c.put-field.new.block c.put-field.result c.put-field.ensures.block c.put-field.ensures.end (omega (arith, c.told-block, before s1, c.put-field-at.ensures.short, c.put-field.ensures.end, c.put-field.ensures.short)) in
+    let s1 = start 0 c.args.block.now (decimal c.args.days ++ (32 ∷ [])) c.put_field-at.new.block c.put_field-at.result c.put_field-at.ensures.block c.put_field-at.ensures.end (omega (arith, c.told-block, c.put_field-at.ensures.end, c.put_field-at.ensures.short)) in
+    let s2 = more s1 (decimal c.args.members ++ (10 ∷ [])) c.put_field.new.block c.put_field.result c.put_field.ensures.block c.put_field.ensures.end (omega (arith, c.told-block, before s1, c.put_field-at.ensures.short, c.put_field.ensures.end, c.put_field.ensures.short)) in
     let s = simp append_assoc at s2 in
-    record { block = s.block; end = omega (arith, s.end); short = omega (arith, c.put-field-at.ensures.short, c.put-field.ensures.short) }
+    record { block = s.block; end = omega (arith, s.end); short = omega (arith, c.put_field-at.ensures.short, c.put_field.ensures.short) }
