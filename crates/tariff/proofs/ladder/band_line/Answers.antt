@@ -20,16 +20,16 @@ kept n h = omega (arith, ints)
 same_line : (x y u v : ℤ) → x ≡ u → y ≡ v → line x y ≡ line u v
 same_line x y u v p q = cc
 
-pub overflow-cast-result : goal.overflow-cast-result
-overflow-cast-result c = fits_small _ (rate_small c.args.percent c.args.price c.requires.1.0 c.requires.0)
+pub overflow_cast-result : goal.overflow_cast-result
+overflow_cast-result c = fits_small _ (rate_small c.args.percent c.args.price c.requires.1.0 c.requires.0)
 
-pub overflow-cast-result-2 : goal.overflow-cast-result-2
-overflow-cast-result-2 c =
+pub overflow_cast-result-2 : goal.overflow_cast-result-2
+overflow_cast-result-2 c =
     let k : c.args.price * c.args.offset ≤ 30000 * 36 = mul-le-mul c.requires.0 c.requires.1.1 in
     fits_small _ (omega arith)
 
-pub overflow-sub-result : goal.overflow-sub-result
-overflow-sub-result c =
+pub overflow_sub-result : goal.overflow_sub-result
+overflow_sub-result c =
     let k : c.args.price * c.args.offset ≤ 30000 * 36 = mul-le-mul c.requires.0 c.requires.1.1 in
     omega (arith, ints)
 

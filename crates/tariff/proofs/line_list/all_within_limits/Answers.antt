@@ -4,13 +4,13 @@ use Rattle.schedule.specs.Lines.{within_limits}
 use Rattle.tariff.proofs.Listed.{within_all, not_all_within}
 use Rattle.tariff.proofs.line_list.all_within_limits.Goals as goal
 
-pub returns-then-not-is-within-limits : goal.returns-then-not-is-within-limits
-returns-then-not-is-within-limits c =
-    sym (not_all_within _ _ _ c.loop-line-test.true (sym c.if-not-is-within-limits.ensures))
+pub returns-then-not-is_within_limits : goal.returns-then-not-is_within_limits
+returns-then-not-is_within_limits c =
+    sym (not_all_within _ _ _ c.loop-line-test.true (sym c.if-not-is_within_limits.ensures))
 
 pub loop-line-preserved : goal.loop-line-preserved
 loop-line-preserved c =
-    All-more (λ x. within_limits x ≡ true) _ _ _ c.loop-line-test.true c.loop-line.invariant (sym c.if-not-is-within-limits.ensures)
+    All-more (λ x. within_limits x ≡ true) _ _ _ c.loop-line-test.true c.loop-line.invariant (sym c.if-not-is_within_limits.ensures)
 
 pub returns : goal.returns
 returns c =

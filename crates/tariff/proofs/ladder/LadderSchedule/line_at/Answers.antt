@@ -13,5 +13,5 @@ same_answer d e m xs ys r h p q = cc
 pub returns-in-Six : goal.returns-in-Six
 returns-in-Six c =
     let s = c.args.self.now in
-    let e = c.six-band-lines.ensures ∙ ap (λ (b : Bands). ladder_lines b s.average s.lowest) (sym c.in-Six.is) in
-    same_answer c.args.difference _ c.args.base c.six-band-lines.result (ladder_lines s.bands s.average s.lowest) c.first-greatest.result c.first-greatest.ensures (to_z-of_z w64 _ c.ranges.difference) e
+    let e = c.six_band_lines.ensures ∙ ap (λ (b : Bands). ladder_lines b s.average s.lowest) (sym c.in-Six.is) in
+    same_answer c.args.difference _ c.args.base c.six_band_lines.result (ladder_lines s.bands s.average s.lowest) c.first_greatest.result c.first_greatest.ensures (to_z-of_z w64 _ c.ranges.difference) e

@@ -7,5 +7,5 @@ use Rattle.tariff.proofs.tolerance.Tolerance.charge.Goals as goal
 
 pub returns : goal.returns
 returns c =
-    let e = c.charge-at.ensures in
+    let e = c.charge_at.ensures in
     charged_by tolerance_charge tolerance_lines c.args.difference _ c.args.base _ _ (to_z-of_z w64 _ c.ranges.difference) e.line e.grains e.fixed tolerance_charges
