@@ -1,5 +1,5 @@
 -- What each write makes of a table's contents. Assumes nothing.
-use Rattle.std.specs.Prelude.{ℕ, ◌+◌, ◌-◌, ◌*◌, true, false, List, set, replicate, slice_set}
+use Rattle.std.specs.Prelude.{ℕ, ◌+◌, ◌-◌, ◌*◌, true, false, List, replicate, slice_set}
 use Rattle.std.proofs.Math.Seq.{paste}
 use Rattle.agreement.specs.declared.readings.Reading.{Reading}
 use Rattle.agreement.specs.declared.readings.Reading.TheVariants.{Unread}

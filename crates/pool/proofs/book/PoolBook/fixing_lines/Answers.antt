@@ -11,11 +11,11 @@ pub returns : goal.returns
 returns g c =
     let s = c.args.self.now in
     let m : Terms = terms (g.M.Schedule.lines s.month) (g.D.Schedule.lines s.day) (g.O.Schedule.lines s.overrun) in
-    let ls : FixingLines = record { month = c.line-at.result; day = c.day-lines.result; overrun = c.day-lines-2.result } in
-    let fits : SFits w64 c.month-total-gas.result.difference = search rules in
-    let e = simp to_z-of_z at c.line-at.ensures in
-    let month = e ∙ ap (λ (x : Gas). answer x.difference x.base m.month) c.month-total-gas.ensures in
+    let ls : FixingLines = record { month = c.line_at.result; day = c.day_lines.result; overrun = c.day_lines-2.result } in
+    let fits : SFits w64 c.month_total-gas.result.difference = search rules in
+    let e = simp to_z-of_z at c.line_at.ensures in
+    let month = e ∙ ap (λ (x : Gas). answer x.difference x.base m.month) c.month_total-gas.ensures in
     record {
-      fixes = are_fixing s.table m ls month c.day-lines.ensures c.day-lines-2.ensures;
-      limited = are_limited s.table m ls month c.day-lines.ensures c.day-lines-2.ensures (g.M.Schedule.lawful s.month) (g.D.Schedule.lawful s.day) (g.O.Schedule.lawful s.overrun);
+      fixes = are_fixing s.table m ls month c.day_lines.ensures c.day_lines-2.ensures;
+      limited = are_limited s.table m ls month c.day_lines.ensures c.day_lines-2.ensures (g.M.Schedule.lawful s.month) (g.D.Schedule.lawful s.day) (g.O.Schedule.lawful s.overrun);
     }

@@ -1,4 +1,4 @@
-use Rattle.std.proofs.Common.{◌≡◌, ℕ, ◌+◌, ◌-◌, ◌<◌, ◌≤◌, Bool, true, false, List, length, get_or, set, sym, refl, ap, ◌∙◌, subst, arith, length-set, w64, SFits, rules}
+use Rattle.std.proofs.Common.{◌≡◌, ℕ, ◌+◌, ◌-◌, ◌<◌, ◌≤◌, true, false, List, length, get_or, sym, refl, ap, ◌∙◌, subst, arith, length-set, w64, SFits, rules}
 use Rattle.std.proofs.lemmas.List.{get_or-set_other}
 use Rattle.std.proofs.lemmas.Int.{to_z-of_z}
 use Rattle.schedule.specs.declared.line.Line.{Line}
@@ -27,14 +27,14 @@ loop-d-preserved g c =
     let n : length c.loop-d.lines ≡ most_days = c.loop-d.invariant.0 in
     elim c.if-marks-d.branch [
       | then-marks-d w ↦
-          let fits : SFits w64 w.day-total-gas.result.difference = search rules in
+          let fits : SFits w64 w.day_total-gas.result.difference = search rules in
           let yes : get_or marks d false ≡ true = w.if-marks-d.true in
-          let e = simp to_z-of_z at w.line-at.ensures in
-          let told : w.line-at.result ≡ f d = simp yes (e ∙ ap (λ (x : Gas). answer x.difference x.base ls) w.day-total-gas.ensures) in
+          let e = simp to_z-of_z at w.line_at.ensures in
+          let told : w.line_at.result ≡ f d = simp yes (e ∙ ap (λ (x : Gas). answer x.difference x.base ls) w.day_total-gas.ensures) in
           subst Filled (sym w.lines-is) (
             simp length-set n,
-            more_set nothing c.loop-d.lines d f c.loop-d.invariant.1 w.line-at.result (omega (arith, c.args.self.now.days.most)) told,
-            (λ k h. get_or-set_other c.loop-d.lines d k w.line-at.result nothing (λ q. omega arith) ∙ c.loop-d.invariant.2 k (omega arith)),
+            more_set nothing c.loop-d.lines d f c.loop-d.invariant.1 w.line_at.result (omega (arith, c.args.self.now.days.most)) told,
+            (λ k h. get_or-set_other c.loop-d.lines d k w.line_at.result nothing (λ q. omega arith) ∙ c.loop-d.invariant.2 k (omega arith)),
           )
       | else-marks-d w ↦
           let no : get_or marks d false ≡ false = w.if-marks-d.false in

@@ -26,4 +26,4 @@ returns c =
     let inv = c.loop-i.invariant in
     let taken : Member → ℕ = λ m. used_gas (day_of c.args.day m) in
     let there : Member → ℕ = λ m. nominated_gas (day_of c.args.day m) in
-    c.gas-of.ensures ∙ summed taken there there (member_at (contents t)) c.loop-i.i t.count _ _ _ (omega arith) inv.0 inv.1 inv.1
+    c.gas_of.ensures ∙ summed taken there there (member_at (contents t)) c.loop-i.i t.count _ _ _ (omega arith) inv.0 inv.1 inv.1

@@ -8,9 +8,9 @@ use Rattle.pool.proofs.table.Table.enrol.Goals as goal
 pub returns : goal.returns
 returns c =
     let t = c.args.self.now in
-    let p = c.in-ok-enrolling.ensures in
+    let p = c.in_ok-enrolling.ensures in
     let call = Enrol c.args.account c.args.retention in
     record {
-      book = ap book_of c.add-member.ensures ∙ enrolled t c.args.account c.args.retention p ∙ sym (after_accepted call (plain t) p.free);
+      book = ap book_of c.add_member.ensures ∙ enrolled t c.args.account c.args.retention p ∙ sym (after_accepted call (plain t) p.free);
       answers = sym (answer_accepted call (plain t) p.free);
     }

@@ -10,7 +10,7 @@ loop-i-preserved c =
     let at = member_at (contents c.args.self.now) in
     let i = c.loop-i.i in
     let gave = c.delivered-delivered.ensures in
-    let got = c.net-received-received.ensures in (
+    let got = c.net_received-received.ensures in (
       omega (arith, c.loop-i.invariant.0, gave.same, sum_by-map-range_with_len_more delivered_gas at 0 i i (omega arith)),
       omega (arith, c.loop-i.invariant.1, got.same, sum_by-map-range_with_len_more net_received_gas at 0 i i (omega arith)),
       omega (arith, c.loop-i.invariant.2, gave.most),
@@ -21,4 +21,4 @@ pub returns : goal.returns
 returns c =
     let t = c.args.self.now in
     let inv = c.loop-i.invariant in
-    c.gas-of.ensures ∙ summed delivered_gas net_received_gas delivered_gas (member_at (contents t)) c.loop-i.i t.count _ _ _ (omega arith) inv.0 inv.1 inv.0
+    c.gas_of.ensures ∙ summed delivered_gas net_received_gas delivered_gas (member_at (contents t)) c.loop-i.i t.count _ _ _ (omega arith) inv.0 inv.1 inv.0

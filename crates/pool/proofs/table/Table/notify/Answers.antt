@@ -10,8 +10,8 @@ pub returns : goal.returns
 returns c =
     let t = c.args.self.now in
     let call = Notify c.args.day in
-    let free : refusal (Notify c.args.day) (plain c.args.self.now) ≡ None = simp (sym c.is-closed.ensures ∙ c.if-is-closed.false, sym c.has.ensures ∙ c.if-not-has.false) in
+    let free : refusal (Notify c.args.day) (plain c.args.self.now) ≡ None = simp (sym c.is_closed.ensures ∙ c.if-is_closed.false, sym c.has.ensures ∙ c.if-not-has.false) in
     record {
-      book = ap book_of c.set-notice.ensures ∙ notified t c.args.day ∙ sym (after_accepted call (plain t) free);
+      book = ap book_of c.set_notice.ensures ∙ notified t c.args.day ∙ sym (after_accepted call (plain t) free);
       answers = sym (answer_accepted call (plain t) free);
     }

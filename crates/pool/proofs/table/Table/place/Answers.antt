@@ -2,4 +2,4 @@ use Rattle.pool.proofs.Enrolled.{placed}
 use Rattle.pool.proofs.table.Table.place.Goals as goal
 
 pub returns : goal.returns
-returns c = placed c.args.self.now c.args.account c.first-with.result c.first-with.ensures
+returns c = placed c.args.self.now c.args.account c.first_with.result c.first_with.ensures

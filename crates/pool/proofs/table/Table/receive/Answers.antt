@@ -8,9 +8,9 @@ use Rattle.pool.proofs.table.Table.receive.Goals as goal
 pub returns : goal.returns
 returns c =
     let t = c.args.self.now in
-    let p = c.in-ok-place.ensures in
+    let p = c.in_ok-place.ensures in
     let call = Receive c.args.account c.args.day c.args.therms in
     record {
-      book = ap book_of c.set-receipt.ensures ∙ received t c.args.account c.args.day c.args.therms c.in-ok-place.place p ∙ sym (after_accepted call (plain t) p.free);
+      book = ap book_of c.set_receipt.ensures ∙ received t c.args.account c.args.day c.args.therms c.in_ok-place.place p ∙ sym (after_accepted call (plain t) p.free);
       answers = sym (answer_accepted call (plain t) p.free);
     }

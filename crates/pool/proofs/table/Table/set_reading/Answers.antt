@@ -5,7 +5,7 @@ use Rattle.agreement.specs.Limits.{most_therms}
 use Rattle.pool.proofs.Lists.{set_keeps}
 use Rattle.pool.proofs.table.Table.set_reading.Goals as goal
 
-pub invariant-of-self : goal.invariant-of-self
-invariant-of-self c =
+pub invariant_of-self : goal.invariant_of-self
+invariant_of-self c =
     let kept = set_keeps (λ r. therms_of r ≤ most_therms) c.args.self.now.readings c.cell.result (Metered c.args.therms) Unread c.requires.small c.args.self.now.metered in
     search rules
