@@ -20,15 +20,15 @@ returns c =
     let settled = c.in-Ok.ensures in
     let few : length (handed_out s) ≤ most_members = omega (arith, length-take-le s.count s.bills (omega (arith, s.few, s.places)), s.few) in
     let days = c.days.result in
-    let total = c.total-cents.result in
+    let total = c.total_cents.result in
     let fits : SFits w64 total = search rules in
     let text =
     ap (λ (z : ℤ). closed_listing days (take most_members c.bills.result.now) z) (to_z-of_z fits)
     ∙ ap (λ (xs : List Bill). closed_listing days (take most_members xs) total) c.bills.ensures
-    ∙ closing month (handed_out s) settled days total few c.days.ensures c.total-cents.ensures ∙ ap printed_month (sym made) in
+    ∙ closing month (handed_out s) settled days total few c.days.ensures c.total_cents.ensures ∙ ap printed_month (sym made) in
     record {
-      block = c.write-closed.ensures.block ∙ ap (λ (t : List ℕ). written 0 t c.args.block.now) text;
-      end = c.write-closed.ensures.end ∙ ap (λ (t : List ℕ). length t) text;
-      fits = c.write-closed.ensures.fits;
+      block = c.write_closed.ensures.block ∙ ap (λ (t : List ℕ). written 0 t c.args.block.now) text;
+      end = c.write_closed.ensures.end ∙ ap (λ (t : List ℕ). length t) text;
+      fits = c.write_closed.ensures.fits;
       fair = subst Fair (sym made) (fairly month (handed_out s) settled);
     }
