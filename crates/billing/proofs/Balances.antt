@@ -1,6 +1,5 @@
 -- What the accepted calls on an account added is what its balance changed by.
-use Rattle.std.proofs.Common.{◌≡◌, ℕ, ◌+◌, ◌<◌, ◌≤◌, Bool, true, false, cond, eqb, List, [], ◌∷◌, ◌++◌, length, get_or, take, drop, set, ℤ, pos, ◌+ℤ◌, Some, None, Ok, Err, Option, Result, sym, refl, ap, ◌∙◌, subst, arith, eq-eqb, eqb-true}
-use borrow.Author.Tests.{eqb-false}
+use Rattle.std.proofs.Common.{◌≡◌, ℕ, ◌+◌, ◌<◌, Bool, true, false, cond, eqb, List, [], ◌∷◌, ◌++◌, length, get_or, take, drop, set, ℤ, pos, ◌+ℤ◌, Some, None, Ok, Err, Option, Result, sym, refl, ap, ◌∙◌, subst, arith, eq-eqb, eqb-true}
 use Rattle.std.proofs.lemmas.Int.{ints}
 use Rattle.std.proofs.lemmas.List.{take_more, drop_more, set_at, append_assoc, length-take-le}
 use Rattle.billing.specs.declared.account.Account.{Account}
@@ -9,6 +8,7 @@ use Rattle.billing.specs.declared.entries.Entry.{Entry}
 use Rattle.billing.specs.declared.refusals.Refusal.{Refusal}
 use Rattle.billing.specs.Refusals.{first, unless, changed_unless, refusal_of}
 use Rattle.billing.specs.declared.keeping.Keeping.{Keeping}
+use Rattle.billing.specs.declared.keeping.Numbered.{Ghosts}
 use Rattle.billing.specs.Keepings.{kept, found, replaced, Leaves}
 use Rattle.billing.specs.Accounts.{account, account_number, balance_found, balance_of, added, entry_checks, call_refusal, answer, after}
 use Rattle.billing.specs.Runs.{answers, after_all, cents, sum_added}
@@ -106,7 +106,7 @@ module _ (cs : List Call) (xs : List Account) (i : ℕ) (d : Call) (h : i < leng
   after_all_more : after_all (take (i + 1) cs) xs ≡ after (get_or cs i d).account (get_or cs i d).entry (after_all (take i cs) xs)
   after_all_more = ap (λ l. after_all l xs) (take_more cs i d h) ∙ after_all_append (take i cs) (get_or cs i d ∷ []) xs
 
-  pub leaves_more : (j k l : Keeping Account) → Leaves account_number j k (after_all (take i cs) xs) → Leaves account_number k l (after (get_or cs i d).account (get_or cs i d).entry (kept k)) → Leaves account_number j l (after_all (take (i + 1) cs) xs)
+  pub leaves_more : {g : Ghosts Account} (j k l : Keeping Account g) → Leaves account_number j k (after_all (take i cs) xs) → Leaves account_number k l (after (get_or cs i d).account (get_or cs i d).entry (kept k)) → Leaves account_number j l (after_all (take (i + 1) cs) xs)
   leaves_more j k l a b =
       let c = get_or cs i d in
       let ys = after c.account c.entry (after_all (take i cs) xs) in
@@ -114,7 +114,7 @@ module _ (cs : List Call) (xs : List Account) (i : ℕ) (d : Call) (h : i < leng
       leaves_as account_number j l ys _ (sym after_all_more) (leaves_next account_number j k l (after_all (take i cs) xs) ys (length-after c.account c.entry (after_all (take i cs) xs)) a b')
 
   -- the answer of the call goes to its place in memory that is lent for the answers
-  pub answers_more : (k : Keeping Account) (told now : List (Result ℤ Refusal)) (r : Result ℤ Refusal) → i < length told → kept k ≡ after_all (take i cs) xs → now ≡ answers (take i cs) xs ++ drop i told → r ≡ answer (get_or cs i d).account (get_or cs i d).entry (kept k) → set now i r ≡ answers (take (i + 1) cs) xs ++ drop (i + 1) told
+  pub answers_more : {g : Ghosts Account} (k : Keeping Account g) (told now : List (Result ℤ Refusal)) (r : Result ℤ Refusal) → i < length told → kept k ≡ after_all (take i cs) xs → now ≡ answers (take i cs) xs ++ drop i told → r ≡ answer (get_or cs i d).account (get_or cs i d).entry (kept k) → set now i r ≡ answers (take (i + 1) cs) xs ++ drop (i + 1) told
   answers_more k told now r less keeps e q =
       let c = get_or cs i d in
       let a = answer c.account c.entry (after_all (take i cs) xs) in

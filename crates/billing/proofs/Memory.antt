@@ -1,11 +1,11 @@
 -- The memory lent, with the records kept at its front; and how the row of an addition decides.
-use Rattle.std.proofs.Common.{◌≡◌, ℕ, ◌<◌, ◌≤◌, Bool, true, false, cond, leb, List, [], ◌∷◌, ◌++◌, length, take, drop, is_ok, Some, None, Option, sym, refl, ap, ◌∙◌, subst, le-leb}
+use Rattle.std.proofs.Common.{◌≡◌, ℕ, ◌<◌, ◌≤◌, true, false, leb, List, [], ◌∷◌, ◌++◌, length, take, drop, is_ok, Some, None, sym, refl, ap, ◌∙◌, subst, le-leb}
 use borrow.Author.Tests.{lt-leb}
 use Rattle.std.proofs.lemmas.List.{take-append-drop, length-take-le, drop_at}
-use Rattle.billing.specs.declared.refusals.Refusal.{Refusal}
 use Rattle.billing.specs.declared.refusals.Refusal.TheVariants.{KeepingFull, NumberInUse}
 use Rattle.billing.specs.Refusals.{◌when◌, first}
 use Rattle.billing.specs.declared.keeping.Keeping.{Keeping}
+use Rattle.billing.specs.declared.keeping.Numbered.{Ghosts}
 use Rattle.billing.specs.Order.{Rising}
 use Rattle.billing.specs.Keepings.{kept, lent, found, add_refusal, over, Leaves}
 
@@ -15,7 +15,7 @@ over_front n before after h e =
     sym (take-append-drop n after) ∙ ap (λ l. take n after ++ l) e ∙ ap (λ k. take n after ++ drop k before) (sym (length-take-le n after h))
 
 -- a refused call leaves a keeping as it was
-pub stays : {R : Type 0} (f : R → ℕ) (k : Keeping R) (xs : List R) → xs ≡ kept k → Leaves f k k xs
+pub stays : {R : Type 0} {g : Ghosts R} (f : R → ℕ) (k : Keeping R g) (xs : List R) → xs ≡ kept k → Leaves f k k xs
 stays f k xs e =
     record {
       keeps = sym e;
@@ -24,11 +24,11 @@ stays f k xs e =
       lender = refl;
     }
 
-pub leaves_as : {R : Type 0} (f : R → ℕ) (j k : Keeping R) (xs ys : List R) → xs ≡ ys → Leaves f j k xs → Leaves f j k ys
+pub leaves_as : {R : Type 0} {g : Ghosts R} (f : R → ℕ) (j k : Keeping R g) (xs ys : List R) → xs ≡ ys → Leaves f j k xs → Leaves f j k ys
 leaves_as f j k xs ys e l = subst (Leaves f j k) e l
 
 -- two calls, of which the second leaves as many records
-pub leaves_next : {R : Type 0} (f : R → ℕ) (i j k : Keeping R) (xs ys : List R) → length ys ≡ length xs → Leaves f i j xs → Leaves f j k ys → Leaves f i k ys
+pub leaves_next : {R : Type 0} {g : Ghosts R} (f : R → ℕ) (i j k : Keeping R g) (xs ys : List R) → length ys ≡ length xs → Leaves f i j xs → Leaves f j k ys → Leaves f i k ys
 leaves_next f i j k xs ys e a b =
     record {
       keeps = b.keeps;

@@ -1,10 +1,10 @@
 -- An addition and a change keep the numbers rising.
-use Rattle.std.proofs.Common.{◌≡◌, ℕ, ◌<◌, ◌≤◌, Bool, true, false, cond, eqb, leb, List, [], ◌∷◌, length, is_ok, Some, None, Ok, Err, Option, Result, sym, refl, ap, ◌∙◌, subst, arith, eqb-true, leb-false, leb-true}
+use Rattle.std.proofs.Common.{◌≡◌, ℕ, ◌<◌, Bool, true, false, cond, eqb, leb, List, [], ◌∷◌, length, is_ok, Some, None, Ok, Result, refl, subst, arith, eqb-true, leb-false, leb-true}
 use borrow.Author.Tests.{eqb-false}
 use Rattle.billing.specs.declared.refusals.Refusal.{Refusal}
 use Rattle.billing.specs.declared.refusals.Refusal.TheVariants.{KeepingFull, NumberInUse}
 use Rattle.billing.specs.Refusals.{◌when◌, first, changed_unless}
-use Rattle.billing.specs.Keepings.{found, in_order, replaced, add_refusal, after_adding, change_refusal, after_change}
+use Rattle.billing.specs.Keepings.{found, in_order, replaced, after_adding, change_refusal, after_change}
 use Rattle.billing.specs.Order.{BelowFirst, Rising}
 
 -- what a search that fails says of the first record and of the rest

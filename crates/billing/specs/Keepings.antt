@@ -1,22 +1,24 @@
 -- A keeping: the rising list of records that it keeps, and the memory lent to it. Each definition over lists takes
--- the number of a record as a function f. Assumes nothing.
-use Rattle.std.specs.Prelude.{◌≡◌, ℕ, Bool, cond, leb, List, [], ◌∷◌, ◌++◌, length, take, drop, is_ok, Ok, Err, Option, Result, ◌==◌, nat_le}
+-- the number of a record as a function f. The type of a keeping names g, the ghost members of its records' `Numbered`.
+-- Assumes nothing.
+use Rattle.std.specs.Prelude.{◌≡◌, ℕ, cond, leb, List, [], ◌∷◌, ◌++◌, length, take, drop, is_ok, Ok, Err, Option, Result, ◌==◌, nat_le}
 use Rattle.billing.specs.declared.keeping.Keeping.{Keeping}
+use Rattle.billing.specs.declared.keeping.Numbered.{Ghosts}
 use Rattle.billing.specs.declared.refusals.Refusal.{Refusal}
 use Rattle.billing.specs.declared.refusals.Refusal.TheVariants.{KeepingFull, NumberInUse, NoSuchNumber}
 use Rattle.billing.specs.Refusals.{◌when◌, first, changed_unless, refusal_of}
 use Rattle.billing.specs.Order.{Rising}
 
 -- all the memory lent
-abbrev pub lent : {R : Type 0} → Keeping R → List R
+abbrev pub lent : {R : Type 0} {g : Ghosts R} → Keeping R g → List R
 lent k = k.slots.now
 
 -- the records kept, at the front of it
-abbrev pub kept : {R : Type 0} → Keeping R → List R
+abbrev pub kept : {R : Type 0} {g : Ghosts R} → Keeping R g → List R
 kept k = take k.len (lent k)
 
 -- how many records there is room for
-abbrev pub room : {R : Type 0} → Keeping R → ℕ
+abbrev pub room : {R : Type 0} {g : Ghosts R} → Keeping R g → ℕ
 room k = length (lent k)
 
 -- memory with these records at its front; the places beyond them hold what they held
@@ -56,7 +58,7 @@ module _ {R : Type 0} (f : R → ℕ) where
   after_change x xs = changed_unless (change_refusal x xs) xs (replaced x xs)
 
 -- A call left a keeping with these records.
-pub record Leaves {R : Type 0} (f : R → ℕ) (before after : Keeping R) (records : List R) : Type 0 where
+pub record Leaves {R : Type 0} {g : Ghosts R} (f : R → ℕ) (before after : Keeping R g) (records : List R) : Type 0 where
   -- they are kept
   pub keeps : kept after ≡ records
   -- the places beyond them hold what they held

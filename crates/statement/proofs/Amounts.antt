@@ -1,5 +1,5 @@
 -- An amount that stands for a total is posted as the total is.
-use Rattle.std.proofs.Common.{◌≡◌, ℕ, ◌<◌, ◌≤◌, Bool, true, false, ltb, List, [], ◌∷◌, ℤ, ◌+ℤ◌, nat_abs, Some, None, Ok, Err, Option, Result, sym, refl, ap, ◌∙◌, ltb-false, ltb-true, lt-ltb}
+use Rattle.std.proofs.Common.{◌≡◌, ℕ, ◌<◌, ◌≤◌, Bool, true, false, ltb, List, [], ◌∷◌, ℤ, ◌+ℤ◌, nat_abs, Some, Ok, Err, Option, Result, sym, refl, ap, ◌∙◌, ltb-false, ltb-true, lt-ltb}
 use Rattle.billing.specs.declared.account.Account.{Account}
 use Rattle.billing.specs.declared.entries.Entry.TheVariants.{Post}
 use Rattle.billing.specs.declared.refusals.Refusal.{Refusal}

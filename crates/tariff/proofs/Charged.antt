@@ -1,5 +1,5 @@
 -- From what the question and its line give to what the tariff says. Assumes nothing.
-use Rattle.std.proofs.Common.{◌≡◌, ℕ, true, List, ℤ, sym, ap, ◌∙◌}
+use Rattle.std.proofs.Common.{◌≡◌, ℕ, List, ℤ, ap, ◌∙◌}
 use Rattle.schedule.specs.declared.line.Line.{Line}
 use Rattle.schedule.specs.Lines.{amount}
 use Rattle.schedule.specs.Charges.{charge}

@@ -1,5 +1,5 @@
 -- The lines of a ladder, and that they are a schedule. Assumes nothing.
-use Rattle.std.specs.Prelude.{◌≡◌, ℕ, zero, suc, ◌+◌, ◌-◌, ◌*◌, ◌≤◌, Bool, true, ◌&&◌, List, [], ◌∷◌, ◌++◌, ℤ, pos, neg_ℤ, nat_le, unsigned_abs, refl}
+use Rattle.std.specs.Prelude.{◌≡◌, ℕ, zero, suc, ◌+◌, ◌-◌, ◌*◌, ◌≤◌, Bool, true, ◌&&◌, List, [], ◌∷◌, ◌++◌, pos, neg_ℤ, nat_le, unsigned_abs, refl}
 use Rattle.std.proofs.Common.{mul-le-mul, mul-le-mul_left, le_trans, arith}
 use Rattle.std.proofs.lemmas.Bool.{le-leb, leb-true, and_parts, and_from}
 use Rattle.schedule.specs.declared.line.Line.{Line}

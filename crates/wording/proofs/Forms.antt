@@ -1,6 +1,6 @@
 -- The form of a line: what its words have to be, one after the other. A text is refuted where a word is missing, does not
 -- fit or is one too many. Assumes nothing.
-use Rattle.std.proofs.Common.{◌≡◌, ℕ, List, [], ◌∷◌, ℤ, Err, Result, sym, subst}
+use Rattle.std.proofs.Common.{◌≡◌, ℕ, List, [], ◌∷◌, ℤ, Err, Result, subst}
 use mir.Syntax.{Width}
 use Rattle.std.specs.declared.num.ParseIntError.{ParseIntError}
 use Rattle.std.specs.Str.Parse.{ExplainsUnsignedError, ExplainsSignedError, ParsesUnsigned, ParsesSigned, HasUnsignedDigitsIfOk, HasSignedDigitsIfOk}

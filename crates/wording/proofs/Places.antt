@@ -1,5 +1,5 @@
 -- The decimal places of a fraction, one at a time. Assumes nothing.
-use Rattle.std.proofs.Common.{◌≡◌, ℕ, zero, suc, ◌-◌, ◌*◌, ◌/◌, ◌%◌, ◌^◌, ◌<◌, cond, List, [], ◌++◌, decimal, sym, refl, ap, ◌∙◌, subst, arith, lit<, ne_eqb}
+use Rattle.std.proofs.Common.{◌≡◌, ℕ, zero, suc, ◌-◌, ◌/◌, ◌%◌, ◌^◌, ◌<◌, cond, [], ◌++◌, decimal, sym, refl, ap, ◌∙◌, subst, arith, lit<, ne_eqb}
 use native.Mathlib.Nat.{pow-succ', mul-div_cancel_left}
 use Rattle.wording.specs.Dollars.{places_of}
 

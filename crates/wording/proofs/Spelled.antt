@@ -5,7 +5,7 @@ use Rattle.std.proofs.lemmas.Result.{MatchResult-weaker}
 use Rattle.std.proofs.lemmas.Int.{to_z-of_z}
 use Rattle.std.specs.Char.{is_whitespace, is_not_whitespace}
 use Rattle.std.specs.Str.{NoCharPasses}
-use Rattle.wording.specs.Words.{NoWord, WordEnds, NextWord, Words, SaysSigned}
+use Rattle.wording.specs.Words.{NoWord, WordEnds, NextWord, SaysSigned}
 use Rattle.wording.specs.Lines.{ReadAs, SpellsNothing, GoesOnAs, GoesOnAsNothing}
 use Rattle.wording.proofs.Peeled.{peeled, none_left}
 use Rattle.wording.proofs.Forms.{Form, Meets, Refutes}

@@ -1,4 +1,4 @@
-use Rattle.std.proofs.Common.{◌≡◌, ℕ, ◌*◌, true, ℤ, sym, ap, ◌∙◌, arith, w64, SFits, rules}
+use Rattle.std.proofs.Common.{◌≡◌, ℕ, ◌*◌, ℤ, sym, ap, ◌∙◌, arith, w64, SFits, rules}
 use Rattle.schedule.specs.Answers.{in_range, answer}
 use Rattle.std.proofs.lemmas.Int.{to_z-of_z}
 use Rattle.std.proofs.lemmas.Bool.Decides.{nat_tests}
@@ -22,9 +22,9 @@ returns c =
     let m = 1000 * c.args.delivered in
     let l = c.in-Ok.ladder in
     let made = c.in-Ok.ensures in
-    let f : SFits w64 c.difference-of-difference.result = search rules in
-    let h = to_z-of_z w64 _ f ∙ difference_at c.args.delivered c.args.received _ _ c.difference-of-difference.ensures (cast_signed c.args.received c.ranges.received) in
-    let r = sym (ap (λ x. in_range x m) h) ∙ sym c.if-not-is-in-range.ensures in
+    let f : SFits w64 c.difference_of-difference.result = search rules in
+    let h = to_z-of_z w64 _ f ∙ difference_at c.args.delivered c.args.received _ _ c.difference_of-difference.ensures (cast_signed c.args.received c.ranges.received) in
+    let r = sym (ap (λ x. in_range x m) h) ∙ sym c.if-not-is_in_range.ensures in
     let line = line_at (banded l.bands l.average l.lowest) (ladder_lines l.bands l.average l.lowest) d _ m _ _ h c.charge-charge.ensures in
     let grains = grains_at (banded l.bands l.average l.lowest) (ladder_lines l.bands l.average l.lowest) d _ m _ _ h r c.charge-charge.ensures in (
       grind (arith, nat_tests, made.0),

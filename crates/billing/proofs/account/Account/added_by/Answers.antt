@@ -1,4 +1,4 @@
-use Rattle.std.proofs.Common.{◌≡◌, ◌≤◌, true, false, ltb, ◌+ℤ◌, nat_abs, Ok, sym, ap, ◌∙◌, arith, w64, SFits, rules, ltb-false}
+use Rattle.std.proofs.Common.{◌≡◌, ◌≤◌, true, false, ltb, ◌+ℤ◌, nat_abs, sym, ◌∙◌, arith, w64, SFits, rules, ltb-false}
 use mir.Syntax.{w128}
 use Rattle.std.proofs.lemmas.Int.{ints, to_z-of_z}
 use Rattle.billing.specs.Limits.{most_balance}

@@ -1,4 +1,4 @@
-use Rattle.std.proofs.Common.{◌≡◌, ◌+◌, ◌-◌, ◌<◌, ◌≤◌, true, false, ◌∷◌, ◌++◌, length, get_or, take, drop, set, is_ok, sym, refl, ap, ◌∙◌, arith}
+use Rattle.std.proofs.Common.{◌≡◌, ◌+◌, ◌-◌, ◌<◌, ◌≤◌, ◌∷◌, ◌++◌, length, take, drop, set, is_ok, sym, refl, ap, ◌∙◌, arith}
 use Rattle.std.specs.List.{between, insert}
 use Rattle.std.proofs.lemmas.List.{length-take-le, length-set}
 use Rattle.billing.specs.Refusals.{unless, changed_unless}
@@ -59,7 +59,7 @@ pub invariant_of-self-2 : goal.invariant_of-self-2
 invariant_of-self-2 g c =
     let r = inside g (goal.at.invariant_of-self-2 g c).After-place_for-place in
     let e : length c.loop-i.self.slots.now ≡ room c.args.self.now = ap length c.loop-i.invariant.3 ∙ length-shifted c.args.self.now.len (lent c.args.self.now) r c.loop-i.i c.loop-i.invariant.1 in
-    (omega (arith, length-set c.loop-i.self.slots.now c.place_for-place.result c.args.newcomer), tt)
+    record { fits = omega (arith, length-set c.loop-i.self.slots.now c.place_for-place.result c.args.newcomer) }
 
 pub returns : goal.returns
 returns g c =

@@ -1,4 +1,4 @@
-use Rattle.std.proofs.Common.{◌≡◌, ◌-◌, ◌<◌, ◌≤◌, length}
+use Rattle.std.proofs.Common.{◌≡◌, ◌-◌, ◌≤◌}
 use Rattle.billing.proofs.Shift.{shifted}
 use Rattle.billing.proofs.keeping.Keeping.add.Given as goal
 

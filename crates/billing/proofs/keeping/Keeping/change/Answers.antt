@@ -1,10 +1,10 @@
-use Rattle.std.proofs.Common.{◌≡◌, ◌-◌, ◌<◌, ◌≤◌, length, get_or, take, drop, set, Some, None, Ok, Err, sym, refl, ap, ◌∙◌, arith}
+use Rattle.std.proofs.Common.{◌≡◌, ◌-◌, ◌<◌, ◌≤◌, length, take, set, None, Err, sym, refl, ap, ◌∙◌, arith}
 use lib.Seq.{take-set-lt}
 use Rattle.std.proofs.lemmas.List.{length-take-le, length-set, drop-set-lt}
 use Rattle.std.proofs.lemmas.Result.{err_from_is_err_and}
 use Rattle.billing.specs.Refusals.{unless, changed_unless, refusal_of}
 use Rattle.billing.specs.Places.{place_from}
-use Rattle.billing.specs.Keepings.{found, kept, lent, replaced, change_refusal, after_change, over}
+use Rattle.billing.specs.Keepings.{kept, lent, replaced, change_refusal, after_change, over}
 use Rattle.billing.proofs.Memory.{over_front, stays}
 use Rattle.billing.proofs.Placed.{stands, missing}
 use Rattle.billing.proofs.Rise.{change_rises}

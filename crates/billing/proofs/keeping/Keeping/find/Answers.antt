@@ -2,7 +2,7 @@ use Rattle.std.proofs.Common.{◌≡◌, ◌-◌, ◌<◌, length, get_or, Ok, E
 use Rattle.std.proofs.lemmas.List.{length-take-le, get_or-take}
 use Rattle.std.proofs.lemmas.Result.{err_from_is_err_and}
 use Rattle.billing.specs.Places.{place_from}
-use Rattle.billing.specs.Keepings.{found, kept}
+use Rattle.billing.specs.Keepings.{kept}
 use Rattle.billing.proofs.Placed.{stands, missing}
 use Rattle.billing.proofs.keeping.Keeping.find.Goals as goal
 

@@ -1,8 +1,8 @@
-use Rattle.std.proofs.Common.{◌≡◌, ℕ, ◌∷◌, ◌+ℤ◌, Some, None, Ok, Err, sym, ap, ◌∙◌, arith, w64, SFits, to_z, of_z, rules}
+use Rattle.std.proofs.Common.{◌≡◌, ◌∷◌, ◌+ℤ◌, Some, None, Ok, Err, sym, ap, ◌∙◌, arith, w64, SFits, to_z, of_z, rules}
 use Rattle.std.proofs.lemmas.Int.{ints, to_z-of_z}
 use Rattle.std.proofs.lemmas.Result.{err_from_is_err_and}
 use Rattle.billing.specs.Refusals.{first, unless, changed_unless, refusal_of}
-use Rattle.billing.specs.Keepings.{found, kept, replaced, after_change, change_refusal}
+use Rattle.billing.specs.Keepings.{kept, replaced, after_change}
 use Rattle.billing.specs.Accounts.{account, account_number, added, balance_of, balance_found, entry_checks, entry_refusal, call_refusal, after}
 use Rattle.billing.proofs.Memory.{stays, leaves_as}
 use Rattle.billing.proofs.Rows.{refused_by, none_refused, answered, never_refused, entered_as, same_sum}

@@ -1,4 +1,4 @@
-use Rattle.std.proofs.Common.{◌≡◌, ℕ, ◌+◌, ◌<◌, ◌++◌, length, take, drop, ◌+ℤ◌, sym, refl, ap, ◌∙◌, arith}
+use Rattle.std.proofs.Common.{◌≡◌, ◌<◌, ◌++◌, length, take, drop, ◌+ℤ◌, sym, refl, ap, ◌∙◌, arith}
 use Rattle.billing.specs.Keepings.{kept}
 use Rattle.billing.specs.Accounts.{account_number, balance_of}
 use Rattle.billing.specs.Runs.{answers, after_all, sum_added}
