@@ -176,7 +176,7 @@ mod tests {
         let end = list_month(&file, &mut block);
         assert_eq!(rt; file.len(), 777);
         assert_eq!(rt; end, 29);
-        assert!(rt; &block[0..29] == b"28 2\n101 5375\n102 -1225\n4150\n");
+        assert!(rt; &block[0..29] == b"28 2\n101 5375\n102 -1225\n4150\n".as_slice());
         assert_eq!(rt; block[29], 7);
         Ok(())
     }
@@ -204,9 +204,9 @@ mod tests {
         let mut block = [7u8; 2048];
         let end = list_month(&START, &mut block);
         assert_eq!(rt; end, 5);
-        assert!(rt; &block[0..5] == b"OPEN\n");
+        assert!(rt; &block[0..5] == b"OPEN\n".as_slice());
         let end = list_month(&[1], &mut block);
         assert_eq!(rt; end, 19);
-        assert!(rt; &block[0..19] == b"FAULT 2 45 1 1 0 0\n");
+        assert!(rt; &block[0..19] == b"FAULT 2 45 1 1 0 0\n".as_slice());
     }
 }
