@@ -1,5 +1,5 @@
 -- A book whose figures are within their limits has gas that the schedules compare, and shares that fit. Assumes nothing.
-use Rattle.std.proofs.Common.{◌≡◌, ℕ, suc, ◌+◌, ◌-◌, ◌*◌, ◌<◌, ◌≤◌, true, leb, List, [], ◌∷◌, length, get_or, ℤ, pos, ◌+ℤ◌, ◌-ℤ◌, ◌*ℤ◌, nat_abs, sum_by, sym, subst, ⊎_elim, mul-le-mul, sub-le, arith, lit≤}
+use Rattle.std.proofs.Common.{◌≡◌, ℕ, suc, ◌+◌, ◌-◌, ◌*◌, ◌≤◌, true, leb, List, [], ◌∷◌, length, ℤ, pos, ◌+ℤ◌, ◌-ℤ◌, ◌*ℤ◌, nat_abs, sum_by, sym, subst, ⊎_elim, mul-le-mul, arith, lit≤}
 use Rattle.std.specs.List.{AllByRecursion as All}
 use Rattle.std.proofs.ByRecursion.{All-get_or, All-weaker, sum_by_le}
 use Rattle.std.proofs.lemmas.List.{get_or_past}
@@ -12,7 +12,7 @@ use Rattle.schedule.proofs.Products.{nat_abs_mul_le}
 use Rattle.agreement.specs.declared.gas.Gas.{Gas}
 use Rattle.agreement.specs.Book.{Book, Day, Member, blank, therms_of}
 use Rattle.agreement.specs.Limits.{most_days, most_members, most_therms, most_day_gas, most_month_gas, most_pool_gas}
-use Rattle.agreement.specs.Gases.{delivered_gas, net_received_gas, day_of, used_gas, nominated_gas, gas_of, for_month, for_day, together, total}
+use Rattle.agreement.specs.Gases.{delivered_gas, net_received_gas, day_of, used_gas, nominated_gas, for_month, for_day, total}
 use Rattle.agreement.specs.Shares.{amount_on}
 
 -- ---- within the limits

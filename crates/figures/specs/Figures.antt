@@ -1,5 +1,5 @@
 -- The worked figures, over the definitions that the contracts cite. Assumes nothing.
-use Rattle.std.specs.Prelude.{◌≡◌, ℕ, ◌+◌, ◌*◌, [], ◌∷◌, ℤ, pos, ◌+ℤ◌, ◌*ℤ◌, neg_ℤ}
+use Rattle.std.specs.Prelude.{◌≡◌, ℕ, ◌+◌, ◌*◌, ℤ, pos, ◌+ℤ◌, ◌*ℤ◌, neg_ℤ}
 use Rattle.schedule.specs.Charges.{charge}
 use Rattle.tariff.specs.declared.ladder.Bands.TheVariants.{Six}
 use Rattle.tariff.specs.BandLines.{ladder_lines}

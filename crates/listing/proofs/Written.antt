@@ -1,5 +1,5 @@
 -- Texts that are written into a block one after another. Assumes nothing.
-use Rattle.std.proofs.Common.{◌≡◌, ℕ, suc, ◌+◌, ◌-◌, ◌^◌, ◌<◌, ◌≤◌, List, [], ◌∷◌, ◌++◌, length, get_or, take, drop, set, ℤ, decimal, sym, refl, ap, ◌∙◌, add-zero, add_assoc, add-one, arith, w64, SFits, rules}
+use Rattle.std.proofs.Common.{◌≡◌, ℕ, ◌+◌, ◌^◌, ◌<◌, ◌≤◌, List, [], ◌∷◌, ◌++◌, length, take, drop, set, ℤ, decimal, sym, ap, ◌∙◌, add-zero, add_assoc, add-one, arith, w64, SFits}
 use Rattle.std.proofs.lemmas.List.{append_assoc, length-append, length-drop, length-take-le, set_split, take_at, drop-drop, drop_at, take-append-drop}
 use lib.Signed.{mag}
 use Rattle.std.specs.Fmt.{signed_decimal}

@@ -1,5 +1,5 @@
-use Rattle.std.proofs.Common.{◌≡◌, ℕ, ◌+◌, ◌-◌, ◌*◌, ◌<◌, ◌≤◌, Bool, true, false, cond, ltb, List, [], ◌∷◌, length, get_or, take, drop, Ok, Err, Result, sym, refl, ap, ◌∙◌, arith, le-ltb, lt-ltb}
-use Rattle.std.proofs.lemmas.List.{take_rest, drop-drop}
+use Rattle.std.proofs.Common.{◌≡◌, ℕ, ◌+◌, ◌≤◌, Bool, true, false, cond, ltb, List, length, take, drop, Ok, Result, sym, ap, ◌∙◌, arith, le-ltb}
+use Rattle.std.proofs.lemmas.List.{drop-drop}
 use Rattle.month_format.specs.declared.errors.BytesError.{BytesError}
 use Rattle.month_format.specs.Records.{cut_of, size_of}
 

@@ -1,12 +1,11 @@
 -- A frame is cut off and read, and nothing else is.
-use Rattle.std.proofs.Common.{◌≡◌, ℕ, zero, suc, ◌+◌, ◌-◌, ◌*◌, ◌/◌, ◌%◌, ◌<◌, ◌≤◌, Bool, true, false, cond, eqb, ltb, ◌⊎◌, List, [], ◌∷◌, ◌++◌, length, get_or, take, drop, Ok, Err, Result, sym, refl, ap, ◌∙◌, subst, inl, inr, ⊎_elim, arith, lit<, ltb-false, le-ltb}
-use Rattle.std.proofs.lemmas.List.{take_at, drop_at, length-append, take-append-drop, length-take-le, get_or-take, get_or-drop, get_or_past, length-drop, drop-drop}
+use Rattle.std.proofs.Common.{◌≡◌, ℕ, zero, suc, ◌+◌, ◌*◌, ◌/◌, ◌%◌, ◌<◌, ◌≤◌, Bool, false, cond, ltb, List, [], ◌∷◌, ◌++◌, length, take, drop, Ok, Err, Result, sym, refl, ap, ◌∙◌, subst, ⊎_elim, arith, lit<, ltb-false, le-ltb}
+use Rattle.std.proofs.lemmas.List.{take_at, drop_at, length-append, take-append-drop, length-take-le, get_or-drop, drop-drop}
 use Rattle.month_format.specs.declared.errors.BytesError.{BytesError}
 use Rattle.month_format.specs.declared.errors.BytesError.TheVariants.{CutShort}
 use Rattle.month_format.specs.declared.errors.RecordError.{RecordError}
-use Rattle.month_format.specs.declared.errors.RecordError.TheVariants.{Bytes}
 use Rattle.month_format.specs.Fields.{AllBytes}
-use Rattle.month_format.specs.Entries.{Entry, encode, framed, frame}
+use Rattle.month_format.specs.Entries.{Entry, encode, frame}
 use Rattle.month_format.specs.Records.{record_of, size_of, cut_of, taken, beside, record_at}
 use Rattle.month_format.specs.Readings.{Reads}
 use Rattle.month_format.proofs.Encodes.{pick, decodes, encodes}

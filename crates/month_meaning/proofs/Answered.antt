@@ -1,5 +1,5 @@
 -- A call that the book answers, and the month after it. Assumes nothing.
-use Rattle.std.proofs.Common.{◌≡◌, ℕ, Some, None, Ok, Err, Option, Result, sym, refl, ap, ◌∙◌, arith}
+use Rattle.std.proofs.Common.{◌≡◌, ℕ, Some, None, Err, Option, sym, refl, ap, ◌∙◌, arith}
 use Rattle.agreement.specs.declared.calls.Call.{Call}
 use Rattle.agreement.specs.declared.refusals.Refusal.{Refusal}
 use Rattle.agreement.specs.Book.{Book}
@@ -7,7 +7,6 @@ use Rattle.agreement.specs.Refusals.{unless}
 use Rattle.agreement.specs.Calls.{accepted, refusal, after, answer, unless_refused}
 use Rattle.month_format.specs.Entries.{Entry, set_up, call}
 use Rattle.month_format.specs.Views.{call_of}
-use Rattle.month_meaning.specs.declared.errors.FileError.{FileError}
 use Rattle.month_meaning.specs.declared.errors.FileError.TheVariants.{InBook}
 use Rattle.month_meaning.specs.Months.{Month, with_book}
 use Rattle.month_meaning.specs.Reading.{posted, answered}

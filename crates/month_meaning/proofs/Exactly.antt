@@ -1,6 +1,6 @@
 -- A file is accepted exactly when it is a month's file, and a fault says what stands before it. Assumes that the numbers
 -- of a file are bytes.
-use Rattle.std.proofs.Common.{◌≡◌, ℕ, suc, ◌+◌, ◌-◌, ◌≤◌, Bool, true, false, cond, eqb, ltb, ◌⊎◌, List, [], ◌∷◌, ◌++◌, length, get_or, take, drop, Some, None, Ok, Err, Option, Result, sym, refl, ap, ◌∙◌, subst, inl, inr, arith, ltb-false, le-ltb, eqb-true}
+use Rattle.std.proofs.Common.{◌≡◌, ℕ, suc, ◌≤◌, Bool, true, false, cond, eqb, ltb, ◌⊎◌, List, [], ◌∷◌, ◌++◌, length, get_or, take, drop, Some, None, Ok, Err, Option, Result, sym, refl, ap, ◌∙◌, subst, inl, inr, arith, ltb-false, le-ltb, eqb-true}
 use Rattle.std.specs.List.{flat_map}
 use Rattle.std.proofs.lemmas.List.{length-append, append-nil, take_at, drop_at, length-drop}
 use Rattle.month_format.specs.declared.errors.BytesError.{BytesError}
@@ -12,12 +12,11 @@ use Rattle.month_format.specs.Fields.{AllBytes}
 use Rattle.month_format.specs.Files.{most_bytes, versioned}
 use Rattle.month_format.specs.Numbers.{nowhere}
 use Rattle.month_format.proofs.Framed.{bytes_drop}
-use Rattle.month_meaning.specs.declared.errors.FileError.{FileError}
 use Rattle.month_meaning.specs.declared.errors.FileError.TheVariants.{InRecord}
 use Rattle.month_meaning.specs.Faults.{fault}
 use Rattle.month_meaning.specs.Months.{Month}
 use Rattle.month_meaning.specs.Reading.{Reading, read_on, begun, reading, kept}
-use Rattle.month_meaning.specs.Accepted.{Makes, Accepted, Held, Stopped, Nowhere, Reads}
+use Rattle.month_meaning.specs.Accepted.{Accepted, Stopped, Nowhere, Reads}
 use Rattle.month_meaning.proofs.Posting.{Posts, err_ok, makes_of, posts_of, held, posts_last}
 use Rattle.month_meaning.proofs.Runs.{complete, Sofar, sound}
 

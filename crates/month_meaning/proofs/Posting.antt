@@ -2,7 +2,7 @@
 use Rattle.std.proofs.Common.{◌≡◌, ℕ, List, [], ◌∷◌, ◌++◌, map, Some, None, Ok, Err, Option, Result, sym, refl, ap, ◌∙◌, subst, arith}
 use Rattle.agreement.specs.declared.calls.Call.{Call}
 use Rattle.agreement.specs.declared.refusals.Refusal.{Refusal}
-use Rattle.agreement.specs.Book.{Book, opened}
+use Rattle.agreement.specs.Book.{opened}
 use Rattle.agreement.specs.Calls.{after, answer}
 use Rattle.agreement.specs.Runs.{run}
 use Rattle.month_format.specs.declared.errors.RecordError.TheVariants.{MisplacedSetUp}

@@ -1,5 +1,5 @@
 -- The reading of a file, in the layers of the code that reads it. Assumes nothing.
-use Rattle.std.proofs.Common.{◌≡◌, ℕ, zero, suc, ◌+◌, ◌-◌, ◌<◌, Bool, true, false, cond, eqb, List, [], ◌∷◌, length, Some, None, Ok, Err, Option, Result, sym, refl, ap, ◌∙◌, arith, ne_eqb}
+use Rattle.std.proofs.Common.{◌≡◌, ℕ, zero, suc, ◌+◌, ◌-◌, ◌<◌, false, cond, eqb, List, [], ◌∷◌, length, Some, None, Ok, Err, Option, Result, sym, refl, ap, ◌∙◌, arith, ne_eqb}
 use Rattle.month_format.specs.declared.errors.BytesError.{BytesError}
 use Rattle.month_format.specs.declared.errors.RecordError.{RecordError}
 use Rattle.month_format.specs.declared.errors.RecordError.TheVariants.{MisplacedSetUp}
@@ -11,7 +11,6 @@ use Rattle.month_format.specs.Records.{record_at}
 use Rattle.month_meaning.specs.declared.errors.FileError.{FileError}
 use Rattle.month_meaning.specs.declared.errors.FileError.TheVariants.{InRecord}
 use Rattle.month_meaning.specs.declared.set_up.SetUp.{SetUp}
-use Rattle.month_meaning.specs.Faults.{fault}
 use Rattle.month_meaning.specs.Months.{Month}
 use Rattle.month_meaning.specs.Reading.{Reading, posted, place_at, went_on, stepped, read_on, begun, reading}
 use Rattle.month_meaning.specs.Layers.{placed, version_placed, month_or, done, as_set_up, first_of, set_up_first, opened_by, rest_after, step_to}

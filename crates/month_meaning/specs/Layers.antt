@@ -6,7 +6,6 @@ use Rattle.month_format.specs.declared.errors.RecordError.TheVariants.{Bytes, Mi
 use Rattle.month_format.specs.declared.fault.Fault.{Fault}
 use Rattle.month_format.specs.declared.fault.Place.{Place}
 use Rattle.month_format.specs.Entries.{Entry, set_up, call}
-use Rattle.month_format.specs.Files.{versioned}
 use Rattle.month_format.specs.Numbers.{nowhere}
 use Rattle.month_format.specs.Records.{record_at}
 use Rattle.month_meaning.specs.declared.errors.FileError.{FileError}

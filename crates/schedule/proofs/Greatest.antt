@@ -1,5 +1,5 @@
 -- What a caller may use of a schedule's answer and charge. Assumes nothing.
-use Rattle.std.proofs.Common.{◌≡◌, ℕ, ◌+◌, Bool, true, false, cond, ◌⊎◌, List, [], ◌∷◌, map, ℤ, ◌+ℤ◌, ◌≤ℤ◌, fold, sym, refl, ap, ◌∙◌, subst, inl, inr, arith}
+use Rattle.std.proofs.Common.{◌≡◌, ℕ, ◌+◌, true, false, cond, ◌⊎◌, List, [], ◌∷◌, map, ℤ, ◌+ℤ◌, ◌≤ℤ◌, fold, sym, refl, ap, ◌∙◌, subst, inl, inr, arith}
 use lib.Signed.{lt_z}
 use Rattle.std.specs.Int.{int_max}
 use Rattle.std.specs.List.{ContainsAt as Has, AllByRecursion as All}

@@ -1,8 +1,7 @@
 -- A scan that keeps the greater line finds the first that gives the charge. Assumes nothing.
-use Rattle.std.proofs.Common.{◌≡◌, ℕ, ◌-◌, ◌<◌, ◌≤◌, Bool, true, false, cond, List, [], ◌∷◌, map, length, get_or, take, drop, ℤ, pos, ◌≤ℤ◌, fold, sym, refl, ap, ◌∙◌, subst, arith, take_all}
+use Rattle.std.proofs.Common.{◌≡◌, ℕ, ◌-◌, ◌<◌, ◌≤◌, true, false, cond, List, [], ◌∷◌, map, length, get_or, take, drop, ℤ, pos, ◌≤ℤ◌, fold, sym, refl, ap, ◌∙◌, subst, arith, take_all}
 use lib.Signed.{lt_z, le_z}
 use Rattle.std.specs.Int.{int_max}
-use Rattle.std.specs.List.{AllByRecursion as All}
 use Rattle.std.proofs.lemmas.Int.{ints}
 use Rattle.std.proofs.ByRecursion.{folded_max_z_bounds}
 use Rattle.schedule.specs.declared.line.Line.{Line}

@@ -1,6 +1,6 @@
-use Rattle.std.proofs.Common.{◌≡◌, ℕ, ◌+◌, ◌-◌, ◌*◌, ◌^◌, ◌<◌, ◌≤◌, List, [], ◌∷◌, ◌++◌, length, get_or, take, sym, refl, ap, ◌∙◌, subst, arith, to_z-of_z, rules}
+use Rattle.std.proofs.Common.{◌+◌, [], ◌∷◌, length, ap, ◌∙◌, arith, to_z-of_z}
 use Rattle.listing.specs.Block.{written}
-use Rattle.listing.proofs.Written.{Sofar, start, more, before, written_none, short_number, short_signed}
+use Rattle.listing.proofs.Written.{start, more, before, short_signed}
 use Rattle.std.specs.Fmt.{signed_decimal}
 use Rattle.listing.proofs.block.put_amount.Goals as goal
 

@@ -1,4 +1,4 @@
-use Rattle.std.proofs.Common.{refl, rules}
+use Rattle.std.proofs.Common.{refl}
 use Rattle.listing.proofs.Written.{written_set}
 use Rattle.listing.proofs.block.put_byte.Goals as goal
 

@@ -1,6 +1,5 @@
-use Rattle.std.proofs.Common.{◌≡◌, ℕ, ◌+◌, ◌-◌, ◌*◌, ◌^◌, ◌<◌, ◌≤◌, List, [], ◌∷◌, ◌++◌, length, get_or, take, sym, refl, ap, ◌∙◌, subst, arith, rules}
-use Rattle.listing.specs.Block.{written}
-use Rattle.listing.proofs.Written.{Sofar, start, more, before, written_none, short_number, short_signed}
+use Rattle.std.proofs.Common.{◌≤◌, [], ◌∷◌, length, get_or, sym, subst, arith}
+use Rattle.listing.proofs.Written.{Sofar, more, before, written_none}
 use Rattle.std.proofs.lemmas.List.{take_more, take_all, length-take-le}
 use Rattle.listing.proofs.block.put_text.Goals as goal
 

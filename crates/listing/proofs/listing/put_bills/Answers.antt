@@ -1,6 +1,5 @@
-use Rattle.std.proofs.Common.{◌≡◌, ℕ, ◌+◌, ◌-◌, ◌*◌, ◌^◌, ◌<◌, ◌≤◌, List, [], ◌∷◌, ◌++◌, length, get_or, take, pos, sym, refl, ap, ◌∙◌, subst, arith, rules}
-use Rattle.listing.specs.Block.{written}
-use Rattle.listing.proofs.Written.{Sofar, start, more, before, written_none, short_number, short_signed}
+use Rattle.std.proofs.Common.{◌≡◌, ◌+◌, ◌≤◌, [], ◌++◌, length, get_or, take, pos, sym, ap, ◌∙◌, subst, arith}
+use Rattle.listing.proofs.Written.{Sofar, more, before, written_none}
 use Rattle.std.specs.List.{flat_map}
 use Rattle.std.proofs.lemmas.List.{take_more, take_all, flat_map_more}
 use Rattle.agreement.specs.declared.bills.Bill.{Bill}

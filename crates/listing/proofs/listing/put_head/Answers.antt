@@ -1,6 +1,5 @@
-use Rattle.std.proofs.Common.{◌≡◌, ℕ, ◌+◌, ◌-◌, ◌*◌, ◌^◌, ◌<◌, ◌≤◌, List, [], ◌∷◌, ◌++◌, length, get_or, take, decimal, sym, refl, ap, ◌∙◌, subst, arith, rules}
-use Rattle.listing.specs.Block.{written}
-use Rattle.listing.proofs.Written.{Sofar, start, more, before, written_none, short_number, short_signed}
+use Rattle.std.proofs.Common.{[], ◌∷◌, ◌++◌, decimal, arith}
+use Rattle.listing.proofs.Written.{start, more, before}
 use Rattle.std.proofs.lemmas.List.{append_assoc}
 use Rattle.listing.proofs.listing.put_head.Goals as goal
 

@@ -1,6 +1,5 @@
-use Rattle.std.proofs.Common.{◌≡◌, ℕ, ◌+◌, ◌-◌, ◌*◌, ◌<◌, ◌≤◌, List, [], ◌∷◌, ◌++◌, length, take, codes, decimal, sym, refl, ap, ◌∙◌, subst, arith, rules}
-use Rattle.listing.specs.Block.{written}
-use Rattle.listing.proofs.Written.{Sofar, start, more, before}
+use Rattle.std.proofs.Common.{[], ◌∷◌, ◌++◌, codes, decimal, arith}
+use Rattle.listing.proofs.Written.{start, more, before}
 use Rattle.std.proofs.lemmas.List.{append_assoc}
 use Rattle.listing.proofs.listing.write_fault.Goals as goal
 

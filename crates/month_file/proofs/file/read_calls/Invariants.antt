@@ -1,4 +1,4 @@
-use Rattle.std.proofs.Common.{◌≡◌, ℕ, ◌+◌, ◌-◌, ◌≤◌, length, Some}
+use Rattle.std.proofs.Common.{◌≡◌, ◌+◌, ◌-◌, ◌≤◌, length, Some}
 use Rattle.month_meaning.specs.Reading.{read_on}
 use Rattle.month_file.specs.Views.{month_of}
 use Rattle.month_file.proofs.file.read_calls.Given as goal

@@ -1,4 +1,4 @@
-use Rattle.std.proofs.Common.{◌≡◌, Some, Err, sym, ap, ◌∙◌}
+use Rattle.std.proofs.Common.{Some, Err, sym, ap, ◌∙◌}
 use Rattle.std.proofs.lemmas.Result.{err_from_is_err_and}
 use Rattle.month_meaning.specs.Reading.{kept}
 use Rattle.month_meaning.proofs.Exactly.{exactly_as}

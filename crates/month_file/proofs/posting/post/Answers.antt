@@ -1,8 +1,7 @@
-use Rattle.std.proofs.Common.{◌≡◌, Some, Err, sym, ap, ◌∙◌, rules}
+use Rattle.std.proofs.Common.{◌≡◌, Some, Err, ap, ◌∙◌, rules}
 use Rattle.std.proofs.lemmas.Result.{err_from_is_err_and}
 use Rattle.pool.specs.Contents.{plain}
 use Rattle.month_format.specs.Views.{said_by, call_of}
-use Rattle.month_meaning.specs.Months.{Month}
 use Rattle.month_meaning.proofs.Answered.{after_refused, month_refused, done_refused}
 use Rattle.month_file.specs.Views.{month_of}
 use Rattle.month_file.proofs.posting.post.Goals as goal

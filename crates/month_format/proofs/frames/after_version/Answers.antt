@@ -1,4 +1,4 @@
-use Rattle.std.proofs.Common.{◌≡◌, ℕ, ◌+◌, ◌-◌, ◌≤◌, cond, eqb, ltb, length, get_or, drop, Ok, Err, sym, refl, ap, ◌∙◌, arith, rules, le-ltb, eq-eqb}
+use Rattle.std.proofs.Common.{◌≤◌, eqb, ltb, length, get_or, Ok, sym, ap, ◌∙◌, arith, rules, le-ltb, eq-eqb}
 use Rattle.std.proofs.lemmas.List.{take_rest, length-drop}
 use Rattle.month_format.proofs.Cuts.{took, passed}
 use Rattle.month_format.proofs.frames.after_version.Goals as goal

@@ -1,4 +1,4 @@
-use Rattle.std.proofs.Common.{◌≡◌, ◌≤◌, length, drop, sym, refl, ap, ◌∙◌, arith, length-drop, rules, tests}
+use Rattle.std.proofs.Common.{◌≤◌, length, ap, arith, length-drop, rules}
 use Rattle.std.proofs.lemmas.List.{take_rest}
 use Rattle.month_format.proofs.Cuts.{cut_parts}
 use Rattle.month_format.proofs.frames.cut.Goals as goal

@@ -1,4 +1,4 @@
-use Rattle.std.proofs.Common.{◌≡◌, ℕ, ◌≤◌, List, length, take, ℤ, Some, Option, sym, ap, ◌∙◌, subst, arith, to_z-of_z, w64, SFits, rules}
+use Rattle.std.proofs.Common.{◌≡◌, ℕ, ◌≤◌, List, length, take, ℤ, Some, sym, ap, ◌∙◌, subst, arith, to_z-of_z, w64, SFits, rules}
 use Rattle.std.proofs.lemmas.List.{length-take-le}
 use Rattle.agreement.specs.declared.bills.Bill.{Bill}
 use Rattle.agreement.specs.Limits.{most_members}
@@ -6,7 +6,6 @@ use Rattle.listing.specs.Block.{written}
 use Rattle.listing.specs.Listing.{closed_listing}
 use Rattle.pool.specs.Settled.{handed_out}
 use Rattle.month_file.specs.Views.{month_of, held_by}
-use Rattle.month_meaning.specs.Months.{Month}
 use Rattle.month_meaning.specs.Bills.{Fair}
 use Rattle.month_listing.specs.Printed.{printed_month}
 use Rattle.month_listing.proofs.Closing.{closing, fairly}

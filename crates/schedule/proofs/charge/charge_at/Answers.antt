@@ -1,8 +1,6 @@
-use Rattle.std.proofs.Common.{◌≡◌, ◌∙◌, w64, SFits, rules}
+use Rattle.std.proofs.Common.{◌∙◌, SFits, rules}
 use mir.Syntax.{w128}
 use Rattle.std.proofs.lemmas.Int.{to_z-of_z}
-use Rattle.schedule.specs.Lines.{amount}
-use Rattle.schedule.specs.Answers.{answer}
 use Rattle.schedule.proofs.Greatest.{fixed, pooling_saves}
 use Rattle.schedule.proofs.charge.charge_at.Goals as goal
 
