@@ -1,6 +1,6 @@
 -- A book whose figures are within their limits has gas that the schedules compare, and shares that fit. Assumes nothing.
 use Rattle.std.proofs.Common.{◌≡◌, ℕ, suc, ◌+◌, ◌-◌, ◌*◌, ◌≤◌, true, leb, List, [], ◌∷◌, length, ℤ, pos, ◌+ℤ◌, ◌-ℤ◌, ◌*ℤ◌, nat_abs, sum_by, sym, subst, ⊎_elim, mul-le-mul, arith, lit≤}
-use Rattle.std.specs.List.{AllByRecursion as All}
+use Rattle.std.specs.List.{AllByRecursion}
 use Rattle.std.proofs.ByRecursion.{All-get_or, All-weaker, sum_by_le}
 use Rattle.std.proofs.lemmas.List.{get_or_past}
 use Rattle.std.proofs.lemmas.Int.{ints}
@@ -23,11 +23,11 @@ pub record SmallDay (d : Day) : Type 0 where
 
 pub record SmallMember (m : Member) : Type 0 where
   pub few_days : length m.days ≤ most_days
-  pub days_small : All SmallDay m.days
+  pub days_small : AllByRecursion SmallDay m.days
 
 pub record SmallBook (b : Book) : Type 0 where
   pub few_members : length b.members ≤ most_members
-  pub members_small : All SmallMember b.members
+  pub members_small : AllByRecursion SmallMember b.members
 
 -- ---- gas of at most n
 pub record Sized (n : ℕ) (g : Gas) : Type 0 where
@@ -37,7 +37,7 @@ pub record Sized (n : ℕ) (g : Gas) : Type 0 where
 less : (a b n : ℕ) → a ≤ n → b ≤ n → nat_abs (pos a -ℤ pos b) ≤ n
 less a b n h k = omega (arith, ints)
 
-sum-most : (f : Day → ℕ) (m : Member) → SmallMember m → All (λ d. f d ≤ most_therms) m.days → sum_by f m.days ≤ most_days * most_therms
+sum-most : (f : Day → ℕ) (m : Member) → SmallMember m → AllByRecursion (λ d. f d ≤ most_therms) m.days → sum_by f m.days ≤ most_days * most_therms
 sum-most f m s h =
     let p = sum_by_le f most_therms m.days h in
     omega (arith, s.few_days)
@@ -77,7 +77,7 @@ day_sized day m s =
 nat_abs_add_le : (x y : ℤ) → nat_abs (x +ℤ y) ≤ nat_abs x + nat_abs y
 nat_abs_add_le x y = omega (arith, ints)
 
-total_sized : (gas : Member → Gas) (n : ℕ) (ms : List Member) → All (λ m. Sized n (gas m)) ms → Sized (length ms * n) (total gas ms)
+total_sized : (gas : Member → Gas) (n : ℕ) (ms : List Member) → AllByRecursion (λ m. Sized n (gas m)) ms → Sized (length ms * n) (total gas ms)
 total_sized gas n [] h = record { difference_most = omega arith; base_most = omega arith }
 total_sized gas n (m ∷ ms) h =
     let r = total_sized gas n ms h.1 in

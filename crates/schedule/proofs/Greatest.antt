@@ -2,7 +2,7 @@
 use Rattle.std.proofs.Common.{◌≡◌, ℕ, ◌+◌, true, false, cond, ◌⊎◌, List, [], ◌∷◌, map, ℤ, ◌+ℤ◌, ◌≤ℤ◌, fold, sym, refl, ap, ◌∙◌, subst, inl, inr, arith}
 use lib.Signed.{lt_z}
 use Rattle.std.specs.Int.{int_max}
-use Rattle.std.specs.List.{ContainsAt as Has, AllByRecursion as All}
+use Rattle.std.specs.List.{ContainsAt, AllByRecursion}
 use Rattle.std.proofs.ByRecursion.{all_has_itself, All-map, folded_max_z_bounds}
 use Rattle.std.proofs.lemmas.Int.{ints}
 use Rattle.std.proofs.lemmas.Bool.{and_parts, false≢true}
@@ -16,23 +16,23 @@ use Rattle.schedule.proofs.Integers.{amount_add}
 use Rattle.schedule.proofs.Scan.{kept, amount_greater_of, answer_in, answer_out}
 
 -- every line of a schedule is within the limits
-pub all_within : (ls : List Line) → all_within_limits ls ≡ true → All (λ l. within_limits l ≡ true) ls
+pub all_within : (ls : List Line) → all_within_limits ls ≡ true → AllByRecursion (λ l. within_limits l ≡ true) ls
 all_within [] h = tt
 all_within (l ∷ ls) h =
     let p = and_parts (within_limits l) (all_within_limits ls) h in (p.0, all_within ls p.1)
 
-pub schedule_within : (ls : List Line) → is_schedule ls ≡ true → All (λ l. within_limits l ≡ true) ls
+pub schedule_within : (ls : List Line) → is_schedule ls ≡ true → AllByRecursion (λ l. within_limits l ≡ true) ls
 schedule_within [] h = tt
 schedule_within (l ∷ ls) h = all_within (l ∷ ls) h
 
 -- what holds of every line holds of the one that the scan keeps
-kept_has : (P : Line → Type 0) (d : ℤ) (m : ℕ) (x : Line) (ls : List Line) → P x → All P ls → P (kept d m x ls)
+kept_has : (P : Line → Type 0) (d : ℤ) (m : ℕ) (x : Line) (ls : List Line) → P x → AllByRecursion P ls → P (kept d m x ls)
 kept_has P d m x [] p q = p
 kept_has P d m x (l ∷ ls) p q =
     kept_has P d m (greater_of d m x l) ls (elim (lt_z (amount d m x) (amount d m l)) as (λ t. P (cond t l x)) [ true ↦ q.0 | false ↦ p ]) q.1
 
 -- what holds of every line of a schedule holds of its answer
-pub answer_has : (P : Line → Type 0) (d : ℤ) (m : ℕ) (ls : List Line) → is_schedule ls ≡ true → All P ls → P (answer d m ls)
+pub answer_has : (P : Line → Type 0) (d : ℤ) (m : ℕ) (ls : List Line) → is_schedule ls ≡ true → AllByRecursion P ls → P (answer d m ls)
 answer_has P d m [] s q = absurd (false≢true s)
 answer_has P d m (l ∷ ls) s q =
     elim (in_range d m) as (λ t. in_range d m ≡ t → P (answer d m (l ∷ ls))) [ true ↦ λ e. subst P (sym (answer_in d m l ls e)) (kept_has P d m l ls q.0 q.1) | false ↦ λ e. subst P (sym (answer_out d m l ls e)) q.0 ] refl
@@ -48,12 +48,12 @@ pub amount_answer : (d : ℤ) (m : ℕ) (ls : List Line) → is_schedule ls ≡ 
 amount_answer d m [] s h = absurd (false≢true s)
 amount_answer d m (l ∷ ls) s h = ap (amount d m) (answer_in d m l ls h) ∙ amount_kept d m l ls
 
-all_unmap : (P : ℤ → Type 0) (f : Line → ℤ) (ls : List Line) → All P (map f ls) → All (λ l. P (f l)) ls
+all_unmap : (P : ℤ → Type 0) (f : Line → ℤ) (ls : List Line) → AllByRecursion P (map f ls) → AllByRecursion (λ l. P (f l)) ls
 all_unmap P f [] h = tt
 all_unmap P f (l ∷ ls) h = (h.0, all_unmap P f ls h.1)
 
 -- no line gives more than the charge
-pub charge_most : (d : ℤ) (m : ℕ) (ls : List Line) → All (λ l. amount d m l ≤ℤ charge d m ls) ls
+pub charge_most : (d : ℤ) (m : ℕ) (ls : List Line) → AllByRecursion (λ l. amount d m l ≤ℤ charge d m ls) ls
 unfolding charge
 charge_most d m [] = tt
 charge_most d m (l ∷ ls) =
@@ -62,16 +62,16 @@ charge_most d m (l ∷ ls) =
 pub fixed : (d : ℤ) (m : ℕ) (ls : List Line) (l : Line) (g : ℤ) → is_schedule ls ≡ true → l ≡ answer d m ls → g ≡ amount d m l → Fixed d m ls l g
 fixed d m ls l g s e f =
     record {
-      among = subst (Has ls) (sym e) (answer_has (Has ls) d m ls s (all_has_itself ls));
+      among = subst (ContainsAt ls) (sym e) (answer_has (ContainsAt ls) d m ls s (all_has_itself ls));
       limits = subst (λ x. within_limits x ≡ true) (sym e) (answer_has (λ x. within_limits x ≡ true) d m ls s (schedule_within ls s));
-      most = λ h. subst (λ z. All (λ x. amount d m x ≤ℤ z) ls) (sym (gives h)) (charge_most d m ls);
+      most = λ h. subst (λ z. AllByRecursion (λ x. amount d m x ≤ℤ z) ls) (sym (gives h)) (charge_most d m ls);
       charged = gives;
     }
   where
     gives : in_range d m ≡ true → g ≡ charge d m ls
     gives h = f ∙ ap (amount d m) e ∙ amount_answer d m ls s h
 
-sum_bounds : (d e : ℤ) (m n : ℕ) (ls rest : List Line) → All (λ l. amount d m l ≤ℤ charge d m ls) rest → All (λ l. amount e n l ≤ℤ charge e n ls) rest → All (λ l. amount (d +ℤ e) (m + n) l ≤ℤ (charge d m ls +ℤ charge e n ls)) rest
+sum_bounds : (d e : ℤ) (m n : ℕ) (ls rest : List Line) → AllByRecursion (λ l. amount d m l ≤ℤ charge d m ls) rest → AllByRecursion (λ l. amount e n l ≤ℤ charge e n ls) rest → AllByRecursion (λ l. amount (d +ℤ e) (m + n) l ≤ℤ (charge d m ls +ℤ charge e n ls)) rest
 sum_bounds d e m n ls [] p q = tt
 sum_bounds d e m n ls (l ∷ rest) p q =
     (subst (λ z. z ≤ℤ (charge d m ls +ℤ charge e n ls)) (sym (amount_add d e m n l)) (add_le _ _ _ _ p.0 q.0), sum_bounds d e m n ls rest p.1 q.1)
@@ -80,14 +80,14 @@ sum_bounds d e m n ls (l ∷ rest) p q =
     add_le x y u v h k = omega (arith, ints)
 
 -- what bounds every amount bounds the charge
-pub charge_least : (d : ℤ) (m : ℕ) (l : Line) (ls : List Line) (z : ℤ) → All (λ x. amount d m x ≤ℤ z) (l ∷ ls) → charge d m (l ∷ ls) ≤ℤ z
+pub charge_least : (d : ℤ) (m : ℕ) (l : Line) (ls : List Line) (z : ℤ) → AllByRecursion (λ x. amount d m x ≤ℤ z) (l ∷ ls) → charge d m (l ∷ ls) ≤ℤ z
 unfolding charge
 charge_least d m l ls z h = fold_le (amount d m l) (map (amount d m) ls) z h.0 (All-map (λ x. x ≤ℤ z) (amount d m) ls h.1)
   where
     max_le : (x y z : ℤ) → x ≤ℤ z → y ≤ℤ z → int_max x y ≤ℤ z
     max_le x y z h k = grind (arith, ints)
 
-    fold_le : (a : ℤ) (xs : List ℤ) (z : ℤ) → a ≤ℤ z → All (λ x. x ≤ℤ z) xs → fold int_max a xs ≤ℤ z
+    fold_le : (a : ℤ) (xs : List ℤ) (z : ℤ) → a ≤ℤ z → AllByRecursion (λ x. x ≤ℤ z) xs → fold int_max a xs ≤ℤ z
     fold_le a [] z h k = h
     fold_le a (x ∷ xs) z h k = fold_le (int_max a x) xs z (max_le a x z h k.0) k.1
 
@@ -102,13 +102,13 @@ abbrev pub Gives : ℤ → ℕ → ℤ → List Line → Type 0
 Gives d m z [] = ⊥
 Gives d m z (l ∷ ls) = (amount d m l ≡ z) ⊎ Gives d m z ls
 
-gives_le : (d : ℤ) (m : ℕ) (z c : ℤ) (ls : List Line) → All (λ l. amount d m l ≤ℤ c) ls → Gives d m z ls → z ≤ℤ c
+gives_le : (d : ℤ) (m : ℕ) (z c : ℤ) (ls : List Line) → AllByRecursion (λ l. amount d m l ≤ℤ c) ls → Gives d m z ls → z ≤ℤ c
 gives_le d m z c [] h g = absurd g
 gives_le d m z c (l ∷ ls) h (inl e) = subst (λ x. x ≤ℤ c) e h.0
 gives_le d m z c (l ∷ ls) h (inr g) = gives_le d m z c ls h.1 g
 
 -- what bounds every amount and is given by a line is the charge
-pub charge_is : (d : ℤ) (m : ℕ) (z : ℤ) (ls : List Line) → All (λ l. amount d m l ≤ℤ z) ls → Gives d m z ls → charge d m ls ≡ z
+pub charge_is : (d : ℤ) (m : ℕ) (z : ℤ) (ls : List Line) → AllByRecursion (λ l. amount d m l ≤ℤ z) ls → Gives d m z ls → charge d m ls ≡ z
 charge_is d m z [] h g = absurd g
 charge_is d m z (l ∷ ls) h g =
     between (charge d m (l ∷ ls)) z (charge_least d m l ls z h) (gives_le d m z (charge d m (l ∷ ls)) (l ∷ ls) (charge_most d m (l ∷ ls)) g)

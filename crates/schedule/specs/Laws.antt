@@ -1,6 +1,6 @@
 -- What holds of the answer and of the charge of every schedule. Assumes nothing.
 use Rattle.std.specs.Prelude.{◌≡◌, ℕ, ◌+◌, true, List, ℤ, ◌+ℤ◌, ◌≤ℤ◌}
-use Rattle.std.specs.List.{ContainsAt as Has, AllByRecursion as All}
+use Rattle.std.specs.List.{ContainsAt, AllByRecursion}
 use Rattle.schedule.specs.declared.line.Line.{Line}
 use Rattle.schedule.specs.Lines.{amount, within_limits}
 use Rattle.schedule.specs.Charges.{charge}
@@ -9,11 +9,11 @@ use Rattle.schedule.specs.Answers.{in_range}
 -- A charge at a difference and a base is fixed by one line of the schedule.
 pub record Fixed (difference : ℤ) (base : ℕ) (ls : List Line) (l : Line) (grains : ℤ) : Type 0 where
   -- the line stands in the list
-  pub among : Has ls l
+  pub among : ContainsAt ls l
   -- it is within the limits
   pub limits : within_limits l ≡ true
   -- in range no line of the list gives more
-  pub most : in_range difference base ≡ true → All (λ x. amount difference base x ≤ℤ grains) ls
+  pub most : in_range difference base ≡ true → AllByRecursion (λ x. amount difference base x ≤ℤ grains) ls
   -- in range it gives the charge
   pub charged : in_range difference base ≡ true → grains ≡ charge difference base ls
 

@@ -1,7 +1,7 @@
 -- The lines of a ladder give the banded amount: proved once for all tables whose edges and percentages rise (short gas)
 -- or whose percentages fall (long gas). Assumes nothing.
 use Rattle.std.proofs.Common.{◌≡◌, ℕ, zero, suc, ◌+◌, ◌-◌, ◌*◌, ◌<◌, ◌≤◌, min, ◌⊎◌, List, [], ◌∷◌, ◌++◌, ℤ, pos, negsuc, ◌+ℤ◌, ◌*ℤ◌, neg_ℤ, ◌≤ℤ◌, refl, ap, ◌∙◌, subst, inl, inr, ⊎_elim, mul-le-mul_right, mul-le-mul_left, zero-mul, arith, lit≤}
-use Rattle.std.specs.List.{AllByRecursion as All}
+use Rattle.std.specs.List.{AllByRecursion}
 use Rattle.std.proofs.ByRecursion.{All-append}
 use Rattle.std.proofs.lemmas.Int.{ints}
 use Rattle.std.proofs.lemmas.Bool.{cases_lt}
@@ -130,7 +130,7 @@ climbs_long k m P p o (b ∷ bs) r =
 
 -- ---- the greatest of the lines
 -- no line gives more than the first with all the excess
-none_above : (d : ℤ) (m y P p o : ℕ) (z : ℤ) (bs : List Band) → Climbs d m y P p o bs → (amount d m (band_line P p o) +ℤ pos (P * excess p bs m y)) ≤ℤ z → All (λ l. amount d m l ≤ℤ z) (band_lines P p o bs)
+none_above : (d : ℤ) (m y P p o : ℕ) (z : ℤ) (bs : List Band) → Climbs d m y P p o bs → (amount d m (band_line P p o) +ℤ pos (P * excess p bs m y)) ≤ℤ z → AllByRecursion (λ l. amount d m l ≤ℤ z) (band_lines P p o bs)
 none_above d m y P p o z [] c h = tt
 none_above d m y P p o z (b ∷ bs) c h =
     let next = amount d m (band_line P b.percent (offset_of p o b)) in
@@ -161,7 +161,7 @@ one_gives d m y P p o e z (b ∷ bs) a c h =
         omega (arith, ints, ap (λ q. P * δ * q) t)
 
 -- ---- the other side's lines, which never fix the charge
-short_above_long : (P p o n m w : ℕ) (bs : List Band) → p ≤ 10 → Falling p bs → P * (10 * (40 * n)) ≤ w → All (λ l. amount (pos n) m l ≤ℤ pos w) (band_lines P p o bs)
+short_above_long : (P p o n m w : ℕ) (bs : List Band) → p ≤ 10 → Falling p bs → P * (10 * (40 * n)) ≤ w → AllByRecursion (λ l. amount (pos n) m l ≤ℤ pos w) (band_lines P p o bs)
 short_above_long P p o n m w [] h r k = tt
 short_above_long P p o n m w (b ∷ bs) h r k =
     let l : b.percent ≤ 10 = omega (arith, r.0) in
@@ -170,7 +170,7 @@ short_above_long P p o n m w (b ∷ bs) h r k =
     at_most : (q o : ℕ) → q ≤ 10 → amount (pos n) m (band_line P q o) ≤ℤ pos w
     at_most q o l = omega (arith, ints, short_is P q o n m, mul-le-mul_right (P * (40 * n)) l)
 
-long_above_short : (P p o k m w : ℕ) (bs : List Band) → 10 ≤ p → Rising p bs → w ≤ P * (10 * (40 * suc k)) → All (λ l. amount (negsuc k) m l ≤ℤ neg_ℤ (pos w)) (band_lines P p o bs)
+long_above_short : (P p o k m w : ℕ) (bs : List Band) → 10 ≤ p → Rising p bs → w ≤ P * (10 * (40 * suc k)) → AllByRecursion (λ l. amount (negsuc k) m l ≤ℤ neg_ℤ (pos w)) (band_lines P p o bs)
 long_above_short P p o k m w [] h r j = tt
 long_above_short P p o k m w (b ∷ bs) h r j =
     let l : 10 ≤ b.percent = omega (arith, r.0) in

@@ -1,6 +1,6 @@
 -- A supplier's list of lines, checked and asked. Assumes nothing.
 use Rattle.std.proofs.Common.{◌≡◌, ℕ, ◌<◌, true, false, cond, List, [], ◌∷◌, length, get_or, ℤ, pos, Ok, Err, Result, sym, refl, ◌∙◌, arith}
-use Rattle.std.specs.List.{AllByRecursion as All}
+use Rattle.std.specs.List.{AllByRecursion}
 use Rattle.std.proofs.ByRecursion.{All-get_or}
 use Rattle.std.proofs.lemmas.Bool.{and_from}
 use Rattle.schedule.specs.declared.line.Line.{Line}
@@ -14,7 +14,7 @@ use Rattle.schedule.proofs.Greatest.{all_within}
 use Rattle.schedule.proofs.Scan.{answer_in, answer_out}
 
 -- the lines seen so far, and then all
-pub within_all : (ls : List Line) → All (λ l. within_limits l ≡ true) ls → all_within_limits ls ≡ true
+pub within_all : (ls : List Line) → AllByRecursion (λ l. within_limits l ≡ true) ls → all_within_limits ls ≡ true
 within_all [] h = refl
 within_all (l ∷ ls) h = and_from (within_limits l) (all_within_limits ls) h.0 (within_all ls h.1)
 
