@@ -12,7 +12,7 @@ use Rattle.figures.specs.Example.{month_file, its_listing}
 
 -- dollars and ten-thousandths of a dollar, in grains
 abbrev pub dollars : ℕ → ℕ → ℤ
-dollars whole tenThousandths = pos (4000000000 * whole + 400000 * tenThousandths)
+dollars whole ten_thousandths = pos (4000000000 * whole + 400000 * ten_thousandths)
 
 -- what the ladder of six bands at 5,000 and 4,000 charges on so many therms of difference and of base
 abbrev pub cash_out : ℤ → ℕ → ℤ

@@ -3,7 +3,7 @@ use Rattle.std.specs.Prelude.{ℕ}
 use Rattle.agreement.specs.declared.refusals.Refusal.{Refusal}
 use Rattle.agreement.specs.declared.refusals.Refusal.TheVariants.{MonthLength, MonthClosed, PoolFull, AccountZero, AlreadyEnrolled, RetentionTooHigh, NotEnrolled, NoSuchDay, TooManyTherms, NoMember, ReadMissing, NotClosed}
 use Rattle.agreement.specs.Refusals.{number_of}
-use Rattle.tariff.specs.declared.refusal.Refusal as the-ladder
+use Rattle.tariff.specs.declared.refusal.Refusal as the_ladder
 use Rattle.tariff.specs.declared.refusal.Refusal.TheVariants.{PriceTooHigh, LowestAboveAverage, BadLineList, BadBandCount}
 use Rattle.tariff.specs.Refusals.{number}
 use Rattle.month_format.specs.declared.fault.Fault.{Fault}
@@ -13,7 +13,7 @@ use Rattle.month_meaning.specs.declared.errors.FileError.{FileError}
 use Rattle.month_meaning.specs.declared.errors.FileError.TheVariants.{InRecord, InLadder, InBook}
 
 -- the layer of a ladder's refusal: the number of bands is a matter of the record, the prices one of the book
-abbrev pub ladder_layer : the-ladder.Refusal → ℕ
+abbrev pub ladder_layer : the_ladder.Refusal → ℕ
 ladder_layer PriceTooHigh = 3
 ladder_layer LowestAboveAverage = 3
 ladder_layer BadLineList = 3

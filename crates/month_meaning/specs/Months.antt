@@ -2,7 +2,7 @@
 use Rattle.std.specs.Prelude.{ℕ, Bool, not, ◌||◌, [], ◌∷◌, Some, None, Ok, Err, Option, Result, ◌==◌}
 use Rattle.schedule.specs.Checks.{◌when◌, first}
 use Rattle.tariff.specs.declared.ladder.Bands.{Bands}
-use Rattle.tariff.specs.declared.refusal.Refusal as the-ladder
+use Rattle.tariff.specs.declared.refusal.Refusal as the_ladder
 use Rattle.tariff.specs.Refusals.{ladder_refusal}
 use Rattle.tariff.specs.Tables.{bands_of}
 use Rattle.agreement.specs.declared.refusals.Refusal.{Refusal}
@@ -37,7 +37,7 @@ days_refusal (Ok days) = None
 days_refusal (Err refusal) = Some (InBook refusal)
 
 -- why a ladder is refused, if it is
-abbrev pub in_ladder : Option the-ladder.Refusal → Option FileError
+abbrev pub in_ladder : Option the_ladder.Refusal → Option FileError
 in_ladder None = None
 in_ladder (Some refusal) = Some (InLadder refusal)
 

@@ -7,7 +7,7 @@ use Rattle.schedule.specs.Schedules.{is_schedule}
 use Rattle.schedule.proofs.Greatest.{answer_has, schedule_within}
 use Rattle.agreement.specs.Book.{Member}
 use Rattle.agreement.specs.Gases.{total}
-use Rattle.agreement.specs.Charges.{Charge, Terms, cash_out}
+use Rattle.agreement.specs.Charges.{Charge, Terms, cash_out_charge}
 use Rattle.agreement.specs.Shares.{fixing}
 use Rattle.pool.specs.declared.lines.FixingLines.{FixingLines}
 use Rattle.pool.specs.declared.table.Table.{Table}
@@ -24,7 +24,7 @@ marked_within true l h = h
 marked_within false l h = refl
 
 module _ (t : Table) (m : Terms) (ls : FixingLines)
-    (month : ls.month ≡ fixing (plain t).members (cash_out m))
+    (month : ls.month ≡ fixing (plain t).members (cash_out_charge m))
     (days : (day : ℕ) → 1 ≤ day → day ≤ t.days.count → line_of ls.day day ≡ where_marked (get_or (replicate 31 true) (day - 1) false) (fixing (plain t).members (on_day m.day day)))
     (overruns : (day : ℕ) → 1 ≤ day → day ≤ t.days.count → line_of ls.overrun day ≡ where_marked (get_or t.notices (day - 1) false) (fixing (plain t).members (on_day m.overrun day))) where
   pub are_fixing : Fixes ls m (plain t)
@@ -42,7 +42,7 @@ module _ (t : Table) (m : Terms) (ls : FixingLines)
   are_limited p q r =
       let Within : Line → Type 0 = λ l. within_limits l ≡ true in
       record {
-        month_within = subst Within (sym month) (fixing_within (plain t).members (cash_out m) p);
+        month_within = subst Within (sym month) (fixing_within (plain t).members (cash_out_charge m) p);
         days_within = λ day from upto. subst Within (sym (days day from upto)) (marked_within (get_or (replicate 31 true) (day - 1) false) _ (fixing_within (plain t).members (on_day m.day day) q));
         overruns_within = λ day from upto. subst Within (sym (overruns day from upto)) (marked_within (get_or t.notices (day - 1) false) _ (fixing_within (plain t).members (on_day m.overrun day) r));
       }

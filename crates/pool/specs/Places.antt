@@ -1,5 +1,5 @@
 -- Where a table has a member, and when a call is accepted there. Assumes nothing.
-use Rattle.std.specs.Prelude.{◌≡◌, ℕ, ◌<◌, ◌≤◌, true, false, Some, None, Option, ◌≢◌, slice_index, slice_index_or}
+use Rattle.std.specs.Prelude.{◌≡◌, ℕ, ◌<◌, ◌≤◌, true, false, Some, None, Option, ◌≢◌, slice_index}
 use Rattle.agreement.specs.declared.calls.Call.TheVariants.{Enrol}
 use Rattle.agreement.specs.Calls.{posting_checks, refusal}
 use Rattle.agreement.specs.Limits.{most_members, most_retention, most_therms}
@@ -11,7 +11,7 @@ use Rattle.pool.specs.Contents.{plain}
 -- the member at a place is the first with this account
 pub record FirstAt (t : Table) (account place : ℕ) : Type 0 where
   pub here : place < t.count
-  pub same : slice_index_or t.accounts place 0 ≡ account
+  pub same : slice_index t.accounts place ≡ account
   pub before : (j : ℕ) → j < place → slice_index t.accounts j ≢ account
 
 -- the place of the first member with this account, or none has it
