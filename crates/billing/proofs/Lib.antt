@@ -5,3 +5,4 @@ pub mod Memory
 pub mod Products
 pub mod Rows
 pub mod Balances
+mod Within

@@ -1,5 +1,6 @@
 -- Accounts: what a call adds to a balance, and what the accounts are after it. Assumes nothing.
-use Rattle.std.specs.Prelude.{ℕ, Bool, false, ltb, List, [], ◌∷◌, ℤ, pos, ◌+ℤ◌, neg_ℤ, Ok, Err, Option, Result, nat_lt, unsigned_abs}
+use Rattle.std.specs.Prelude.{ℕ, ◌≤◌, Bool, false, ltb, List, [], ◌∷◌, ℤ, pos, ◌+ℤ◌, neg_ℤ, Ok, Err, Option, Result, nat_lt, unsigned_abs}
+use Rattle.std.specs.List.{AllByRecursion as All}
 use Rattle.billing.specs.declared.account.Account.{Account}
 use Rattle.billing.specs.declared.entries.Entry.{Entry}
 use Rattle.billing.specs.declared.entries.Entry.TheVariants.{Post, Pay, Late}
@@ -17,6 +18,14 @@ account n cents = record { number = n; balance = cents }
 -- the number that an account is kept by
 abbrev pub account_number : Account → ℕ
 account_number a = a.number
+
+-- a balance is not beyond the limit, either way
+abbrev pub IsWithin : Account → Type 0
+IsWithin a = unsigned_abs a.balance ≤ most_balance
+
+-- no balance is
+abbrev pub WithinLimit : List Account → Type 0
+WithinLimit accounts = All IsWithin accounts
 
 -- the balance of the account that was found; where none was, nothing
 abbrev pub balance_found : Result Account Refusal → ℤ

@@ -1,7 +1,7 @@
 // The calls on accounts that are kept. Each answers the cents that it added to the account's balance.
 ghost use Rattle.std.specs.Prelude.{◌≡◌, ℕ, min, ◌++◌, length, take, drop, ◌+ℤ◌};
 ghost use Rattle.billing.specs.Keepings.{kept, Leaves};
-ghost use Rattle.billing.specs.Accounts.{account_number, answer, after, balance_of};
+ghost use Rattle.billing.specs.Accounts.{account_number, answer, after, balance_of, WithinLimit};
 ghost use Rattle.billing.specs.Runs.{answers as answers_to, after_all, sum_added};
 
 use crate::account::Account;
@@ -54,6 +54,7 @@ impl Keeping<'_, Account> {
         ensures answers { answers.new ≡ answers_to (take result calls.now) (kept self.old) ++ drop result answers.old }
         ensures leaves { Leaves account_number self.old self.new (after_all (take result calls.now) (kept self.old)) }
         ensures sums { (n : ℕ) → balance_of n (kept self.new) ≡ balance_of n (kept self.old) +ℤ sum_added n (take result calls.now) answers.new }
+        ensures within { WithinLimit (kept self.old) → WithinLimit (kept self.new) }
     {
         let count = calls.len().min(answers.len());
         for i in 0..count {

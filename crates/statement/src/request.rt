@@ -1,7 +1,12 @@
 // What a line asks for.
+ghost use Rattle.std.specs.Prelude.{codes, MatchResult};
+ghost use Rattle.std.specs.Str.Iter.{split_whitespace_rest};
+ghost use Rattle.wording.specs.Lines.{ReadAs, SpellsNothing, GoesOnAs, GoesOnAsNothing};
+ghost use Rattle.statement.specs.Requests.{Spells, SpellsBlocks, NumberOrEnd, NoNumber};
+
 use billing::{Block, Blocks, Entry, Usage};
-use std::fmt;
-use std::str::{FromStr, SplitWhitespace};
+use std::str::SplitWhitespace;
+use wording::{Fault, end, next_number};
 
 #[derive(Clone, Copy)]
 pub enum Request {
@@ -28,46 +33,13 @@ pub enum Request {
     },
 }
 
-// What is wrong with a line.
-#[derive(Clone, Copy)]
-pub enum Fault<'a> {
-    Empty,
-    UnknownRequest(&'a str),
-    Missing(&'static str),
-    NotANumber(&'static str, &'a str),
-    Superfluous(&'a str),
-}
-
-// The next word as a number, which stands for what `name` says.
-fn next_number<'a, T: FromStr>(
-    words: &mut SplitWhitespace<'a>,
-    name: &'static str,
-) -> Result<T, Fault<'a>>
-where
-    T::Err: Drop,
-{
-    let Some(word) = words.next() else {
-        return Err(Fault::Missing(name));
-    };
-    match word.parse::<T>() {
-        Ok(number) => Ok(number),
-        Err(_) => Err(Fault::NotANumber(name, word)),
-    }
-}
-
-// That no word is left.
-fn end<'a>(words: &mut SplitWhitespace<'a>) -> Result<(), Fault<'a>> {
-    match words.next() {
-        Some(word) => Err(Fault::Superfluous(word)),
-        None => Ok(()),
-    }
-}
-
 // The next word as a number, if there is one.
 fn maybe_number<'a>(
     words: &mut SplitWhitespace<'a>,
     name: &'static str,
-) -> Result<Option<u32>, Fault<'a>> {
+) -> Result<Option<u32>, Fault<'a>>
+    ensures { MatchResult result (NumberOrEnd (split_whitespace_rest words.old) (split_whitespace_rest words.new)) (λ _. NoNumber (split_whitespace_rest words.old)) }
+{
     let Some(word) = words.next() else {
         return Ok(None);
     };
@@ -77,8 +49,10 @@ fn maybe_number<'a>(
     }
 }
 
-// One, three or five numbers: the blocks that end, and the last rate.
-fn read_blocks<'a>(words: &mut SplitWhitespace<'a>) -> Result<Blocks, Fault<'a>> {
+// One, three or five numbers to the end of the line: the blocks that end, and the last rate.
+fn read_blocks<'a>(words: &mut SplitWhitespace<'a>) -> Result<Blocks, Fault<'a>>
+    ensures { MatchResult result (ReadAs SpellsBlocks (split_whitespace_rest words.old)) (λ _. SpellsNothing SpellsBlocks (split_whitespace_rest words.old)) }
+{
     let one: u32 = next_number(words, "the rate")?;
     let Some(first_rate) = maybe_number(words, "the rate of the first block")? else {
         return Ok(Blocks::One { rate: one });
@@ -96,6 +70,7 @@ fn read_blocks<'a>(words: &mut SplitWhitespace<'a>) -> Result<Blocks, Fault<'a>>
         rate: second_rate,
     };
     let rate = next_number(words, "the rate above")?;
+    end(words)?;
     Ok(Blocks::Three {
         first,
         second,
@@ -103,7 +78,10 @@ fn read_blocks<'a>(words: &mut SplitWhitespace<'a>) -> Result<Blocks, Fault<'a>>
     })
 }
 
-fn read_sheet<'a>(words: &mut SplitWhitespace<'a>) -> Result<Request, Fault<'a>> {
+// The rate sheet behind the first word.
+fn read_sheet<'a>(words: &mut SplitWhitespace<'a>) -> Result<Request, Fault<'a>>
+    ensures { MatchResult result (GoesOnAs Spells (codes "sheet") (split_whitespace_rest words.old)) (λ _. GoesOnAsNothing Spells (codes "sheet") (split_whitespace_rest words.old)) }
+{
     let number = next_number(words, "the sheet")?;
     let monthly_cents = next_number(words, "the monthly charge")?;
     let blocks = read_blocks(words)?;
@@ -114,13 +92,26 @@ fn read_sheet<'a>(words: &mut SplitWhitespace<'a>) -> Result<Request, Fault<'a>>
     })
 }
 
-fn read_bill<'a>(words: &mut SplitWhitespace<'a>) -> Result<Request, Fault<'a>> {
+// The new member behind the first word.
+fn read_member<'a>(words: &mut SplitWhitespace<'a>) -> Result<Request, Fault<'a>>
+    ensures { MatchResult result (GoesOnAs Spells (codes "member") (split_whitespace_rest words.old)) (λ _. GoesOnAsNothing Spells (codes "member") (split_whitespace_rest words.old)) }
+{
+    let number = next_number(words, "the member")?;
+    end(words)?;
+    Ok(Request::Member { number })
+}
+
+// The bill behind the first word.
+fn read_bill<'a>(words: &mut SplitWhitespace<'a>) -> Result<Request, Fault<'a>>
+    ensures { MatchResult result (GoesOnAs Spells (codes "bill") (split_whitespace_rest words.old)) (λ _. GoesOnAsNothing Spells (codes "bill") (split_whitespace_rest words.old)) }
+{
     let member = next_number(words, "the member")?;
     let sheet = next_number(words, "the sheet")?;
     let days = next_number(words, "the days of the month")?;
     let served = next_number(words, "the days served")?;
     let therms = next_number(words, "the therms")?;
     let pool_cents = next_number(words, "the pool's cents")?;
+    end(words)?;
     Ok(Request::Bill {
         member,
         sheet,
@@ -133,44 +124,43 @@ fn read_bill<'a>(words: &mut SplitWhitespace<'a>) -> Result<Request, Fault<'a>> 
     })
 }
 
-fn read_payment<'a>(words: &mut SplitWhitespace<'a>) -> Result<Request, Fault<'a>> {
+// The payment behind the first word.
+fn read_payment<'a>(words: &mut SplitWhitespace<'a>) -> Result<Request, Fault<'a>>
+    ensures { MatchResult result (GoesOnAs Spells (codes "pay") (split_whitespace_rest words.old)) (λ _. GoesOnAsNothing Spells (codes "pay") (split_whitespace_rest words.old)) }
+{
     let member = next_number(words, "the member")?;
     let amount = next_number(words, "the amount")?;
+    end(words)?;
     Ok(Request::Enter {
         member,
         entry: Entry::Pay { amount },
     })
 }
 
-// The request of a line, or what is wrong with it.
-pub(crate) fn read_request<'a>(line: &'a str) -> Result<Request, Fault<'a>> {
-    let mut words = line.split_whitespace();
-    let request = match words.next() {
-        Some("sheet") => read_sheet(&mut words)?,
-        Some("member") => Request::Member {
-            number: next_number(&mut words, "the member")?,
-        },
-        Some("bill") => read_bill(&mut words)?,
-        Some("pay") => read_payment(&mut words)?,
-        Some("late") => Request::Enter {
-            member: next_number(&mut words, "the member")?,
-            entry: Entry::Late,
-        },
-        Some(word) => return Err(Fault::UnknownRequest(word)),
-        None => return Err(Fault::Empty),
-    };
-    end(&mut words)?;
-    Ok(request)
+// The late charge behind the first word.
+fn read_late<'a>(words: &mut SplitWhitespace<'a>) -> Result<Request, Fault<'a>>
+    ensures { MatchResult result (GoesOnAs Spells (codes "late") (split_whitespace_rest words.old)) (λ _. GoesOnAsNothing Spells (codes "late") (split_whitespace_rest words.old)) }
+{
+    let member = next_number(words, "the member")?;
+    end(words)?;
+    Ok(Request::Enter {
+        member,
+        entry: Entry::Late,
+    })
 }
 
-impl fmt::Display for Fault<'_> {
-    fn fmt<W: fmt::Write>(&self, f: &mut fmt::Formatter<W>) -> fmt::Result {
-        match *self {
-            Fault::Empty => write!(f, "  an empty line asks for nothing"),
-            Fault::UnknownRequest(word) => write!(f, "  '{word}' is no request"),
-            Fault::Missing(name) => write!(f, "  {name} is missing"),
-            Fault::NotANumber(name, word) => write!(f, "  '{word}' is no number for {name}"),
-            Fault::Superfluous(word) => write!(f, "  '{word}' does not belong here"),
-        }
+// The request that the words of a line spell; just where they spell none, what is wrong with the line.
+pub(crate) fn read_request<'a>(line: &'a str) -> Result<Request, Fault<'a>>
+    ensures { MatchResult result (ReadAs Spells line.now) (λ _. SpellsNothing Spells line.now) }
+{
+    let mut words = line.split_whitespace();
+    match words.next() {
+        Some("sheet") => read_sheet(&mut words),
+        Some("member") => read_member(&mut words),
+        Some("bill") => read_bill(&mut words),
+        Some("pay") => read_payment(&mut words),
+        Some("late") => read_late(&mut words),
+        Some(word) => Err(Fault::UnknownRequest(word, "")),
+        None => Err(Fault::Empty),
     }
 }

@@ -1,9 +1,10 @@
-use Rattle.std.proofs.Common.{◌≡◌, ◌<◌, ◌++◌, length, take, drop, ◌+ℤ◌, sym, refl, ap, ◌∙◌, arith}
+use Rattle.std.proofs.Common.{◌≡◌, ◌<◌, ◌++◌, length, take, drop, ◌+ℤ◌, sym, refl, ap, ◌∙◌, subst, arith}
 use Rattle.billing.specs.Keepings.{kept}
-use Rattle.billing.specs.Accounts.{account_number, balance_of}
+use Rattle.billing.specs.Accounts.{account_number, balance_of, WithinLimit}
 use Rattle.billing.specs.Runs.{answers, after_all, sum_added}
 use Rattle.billing.proofs.Memory.{stays, leaves_as}
 use Rattle.billing.proofs.Balances.{leaves_more, answers_more, balance_adds_up, sum_of_front}
+use Rattle.billing.proofs.Within.{run_within}
 use Rattle.billing.proofs.ledger.Keeping+Account.run.Goals as goal
 
 pub loop-i-init : goal.loop-i-init
@@ -35,4 +36,5 @@ returns c =
       answers = list;
       leaves = l;
       sums = λ n. ap (balance_of n) l.keeps ∙ balance_adds_up n (take m cs) xs ∙ ap (λ s. balance_of n xs +ℤ s) (sym (sum_of_front n (take m cs) xs (drop m told)) ∙ ap (sum_added n (take m cs)) (sym list));
+      within = λ w. subst WithinLimit (sym l.keeps) (run_within (take m cs) xs w);
     }
