@@ -1,6 +1,6 @@
 -- Accounts: what a call adds to a balance, and what the accounts are after it. Assumes nothing.
-use Rattle.std.specs.Prelude.{ℕ, ◌≤◌, Bool, false, ltb, List, [], ◌∷◌, ℤ, pos, ◌+ℤ◌, neg_ℤ, Ok, Err, Option, Result, nat_lt, unsigned_abs}
-use Rattle.std.specs.List.{AllByRecursion as All}
+use Rattle.std.specs.Prelude.{ℕ, ◌≤◌, Bool, false, List, [], ◌∷◌, ℤ, pos, ◌+ℤ◌, neg_ℤ, Ok, Err, Option, Result, nat_lt, unsigned_abs}
+use Rattle.std.specs.List.{AllByRecursion}
 use Rattle.billing.specs.declared.account.Account.{Account}
 use Rattle.billing.specs.declared.entries.Entry.{Entry}
 use Rattle.billing.specs.declared.entries.Entry.TheVariants.{Post, Pay, Late}
@@ -25,7 +25,7 @@ IsWithin a = unsigned_abs a.balance ≤ most_balance
 
 -- no balance is
 abbrev pub WithinLimit : List Account → Type 0
-WithinLimit accounts = All IsWithin accounts
+WithinLimit accounts = AllByRecursion IsWithin accounts
 
 -- the balance of the account that was found; where none was, nothing
 abbrev pub balance_found : Result Account Refusal → ℤ
@@ -55,7 +55,7 @@ amount_refusal entry = AmountTooLarge when is_amount_too_large entry
 -- the checks of an entry at a balance: its amount is too large; the balance would pass the limit
 abbrev pub entry_checks : Entry → ℤ → List (Option Refusal)
 entry_checks entry balance =
-    amount_refusal entry ∷ BalanceTooLarge when ltb most_balance (unsigned_abs (balance +ℤ added entry balance)) ∷ []
+    amount_refusal entry ∷ BalanceTooLarge when nat_lt most_balance (unsigned_abs (balance +ℤ added entry balance)) ∷ []
 
 -- why an entry is refused at a balance
 abbrev pub entry_refusal : Entry → ℤ → Option Refusal

@@ -1,7 +1,7 @@
 -- A keeping: the rising list of records that it keeps, and the memory lent to it. Each definition over lists takes
 -- the number of a record as a function f. The type of a keeping names g, the ghost members of its records' `Numbered`.
 -- Assumes nothing.
-use Rattle.std.specs.Prelude.{◌≡◌, ℕ, cond, leb, List, [], ◌∷◌, ◌++◌, length, take, drop, is_ok, Ok, Err, Option, Result, ◌==◌, nat_le}
+use Rattle.std.specs.Prelude.{◌≡◌, ℕ, cond, List, [], ◌∷◌, ◌++◌, length, take, drop, is_ok, Ok, Err, Option, Result, ◌==◌, nat_le}
 use Rattle.billing.specs.declared.keeping.Keeping.{Keeping}
 use Rattle.billing.specs.declared.keeping.Numbered.{Ghosts}
 use Rattle.billing.specs.declared.refusals.Refusal.{Refusal}
@@ -43,7 +43,7 @@ module _ {R : Type 0} (f : R → ℕ) where
 
   -- why a newcomer is not added: its number is in use; there is no room
   abbrev pub add_refusal : ℕ → R → List R → Option Refusal
-  add_refusal places x xs = first (NumberInUse when is_ok (found (f x) xs) ∷ KeepingFull when leb places (length xs) ∷ [])
+  add_refusal places x xs = first (NumberInUse when is_ok (found (f x) xs) ∷ KeepingFull when nat_le places (length xs) ∷ [])
 
   -- the records after an addition
   abbrev pub after_adding : ℕ → R → List R → List R
