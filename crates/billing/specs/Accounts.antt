@@ -23,7 +23,7 @@ account_number a = a.number
 abbrev pub IsWithin : Account → Type 0
 IsWithin a = unsigned_abs a.balance ≤ most_balance
 
--- no balance is
+-- no account's balance is beyond the limit
 abbrev pub WithinLimit : List Account → Type 0
 WithinLimit accounts = AllByRecursion IsWithin accounts
 

@@ -9,8 +9,7 @@ mod printing;
 mod request;
 
 use billing::{Account, Blocks, Keeping, RateSheet};
-use desk::carry_out;
-use printing::print_answer;
+use desk::answer;
 use request::read_request;
 use std::io;
 use std::io::{BufRead, BufReader};
@@ -33,7 +32,7 @@ fn main(rt: HostRuntime) -> io::Result<()> {
         let text = line.as_str();
         println!(rt; "{text}")?;
         match read_request(text) {
-            Ok(request) => print_answer(&rt, carry_out(&mut sheets, &mut accounts, request))?,
+            Ok(request) => answer(&rt, &mut sheets, &mut accounts, request)?,
             Err(fault) => rt.println(fault)?,
         }
     }
