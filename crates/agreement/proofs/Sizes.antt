@@ -9,30 +9,14 @@ use Rattle.schedule.specs.declared.line.Line.{Line}
 use Rattle.schedule.specs.Lines.{within_limits}
 use Rattle.schedule.specs.Answers.{in_range}
 use Rattle.schedule.proofs.Products.{nat_abs_mul_le}
-use Rattle.agreement.specs.declared.gas.Gas.{Gas}
-use Rattle.agreement.specs.Book.{Book, Day, Member, blank, therms_of}
-use Rattle.agreement.specs.Limits.{most_days, most_members, most_therms, most_day_gas, most_month_gas, most_pool_gas}
+use Rattle.schedule.specs.declared.gas.Gas.{Gas}
+use Rattle.agreement.specs.declared.day.Day.{Day}
+use Rattle.agreement.specs.Book.{Book, Member, blank, therms_of}
+use Rattle.agreement.specs.Limits.{most_members, most_therms, most_day_gas, most_month_gas, most_pool_gas}
+use Rattle.rules.specs.Days.{most_days}
 use Rattle.agreement.specs.Gases.{delivered_gas, net_received_gas, day_of, used_gas, nominated_gas, for_month, for_day, total}
 use Rattle.agreement.specs.Shares.{amount_on}
-
--- ---- within the limits
-pub record SmallDay (d : Day) : Type 0 where
-  pub nominated_most : d.nominated ≤ most_therms
-  pub read_most : therms_of d.reading ≤ most_therms
-  pub received_most : d.received ≤ most_therms
-
-pub record SmallMember (m : Member) : Type 0 where
-  pub few_days : length m.days ≤ most_days
-  pub days_small : AllByRecursion SmallDay m.days
-
-pub record SmallBook (b : Book) : Type 0 where
-  pub few_members : length b.members ≤ most_members
-  pub members_small : AllByRecursion SmallMember b.members
-
--- ---- gas of at most n
-pub record Sized (n : ℕ) (g : Gas) : Type 0 where
-  pub difference_most : nat_abs g.difference ≤ n
-  pub base_most : g.base ≤ n
+use Rattle.agreement.specs.Sizes.{SmallDay, SmallMember, SmallBook, Sized}
 
 less : (a b n : ℕ) → a ≤ n → b ≤ n → nat_abs (pos a -ℤ pos b) ≤ n
 less a b n h k = omega (arith, ints)

@@ -1,15 +1,8 @@
 -- The plain book: what a pool's month holds, as lists. Assumes nothing.
-use Rattle.std.specs.Prelude.{ℕ, Bool, true, false, List, [], replicate}
-use Rattle.agreement.specs.declared.readings.Reading.{Reading}
-use Rattle.agreement.specs.declared.readings.Reading.TheVariants.{Unread, Metered}
+use Rattle.std.specs.Prelude.{ℕ, Bool, true, false, List, [], Some, None, Option, replicate}
+use Rattle.agreement.specs.declared.day.Day.{Day}
 use Rattle.agreement.specs.declared.status.Status.{Status}
 use Rattle.agreement.specs.declared.status.Status.TheVariants.{Open, Closed}
-
--- one day of one member: the nomination, what the meter gave, and the receipt, in therms
-pub record Day : Type 0 where
-  pub nominated : ℕ
-  pub reading : Reading
-  pub received : ℕ
 
 -- a member: its account number, its retention in tenths of a percent, and its days in order
 pub record Member : Type 0 where
@@ -26,7 +19,7 @@ pub record Book : Type 0 where
 
 -- a day on which nothing is posted yet
 abbrev pub blank : Day
-blank = record { nominated = 0; reading = Unread; received = 0 }
+blank = record { nominated = 0; reading = None; received = 0 }
 
 -- a new member of a book of so many days
 abbrev pub new_member : ℕ → ℕ → ℕ → Member
@@ -42,11 +35,11 @@ is_closed Open = false
 is_closed Closed = true
 
 -- whether a day has no read
-abbrev pub is_unread : Reading → Bool
-is_unread Unread = true
-is_unread (Metered therms) = false
+abbrev pub is_unread : Option ℕ → Bool
+is_unread None = true
+is_unread (Some therms) = false
 
 -- the gas that a reading counts for
-abbrev pub therms_of : Reading → ℕ
-therms_of Unread = 0
-therms_of (Metered therms) = therms
+abbrev pub therms_of : Option ℕ → ℕ
+therms_of None = 0
+therms_of (Some therms) = therms

@@ -1,7 +1,8 @@
 -- The gas of a member and of a pool, in thousandths of a therm. Assumes nothing.
 use Rattle.std.specs.Prelude.{ℕ, ◌+◌, ◌-◌, ◌*◌, List, [], ◌∷◌, pos, ◌+ℤ◌, ◌-ℤ◌, sum_by, slice_index_or}
-use Rattle.agreement.specs.declared.gas.Gas.{Gas}
-use Rattle.agreement.specs.Book.{Day, Member, blank, therms_of}
+use Rattle.schedule.specs.declared.gas.Gas.{Gas}
+use Rattle.agreement.specs.declared.day.Day.{Day}
+use Rattle.agreement.specs.Book.{Member, blank, therms_of}
 
 -- therms in thousandths
 abbrev pub thousandths : ℕ → ℕ

@@ -8,6 +8,7 @@ pub mod Missing
 pub mod Calls
 pub mod Runs
 pub mod Gases
+pub mod Sizes
 pub mod Sums
 pub mod Charges
 pub mod Shares

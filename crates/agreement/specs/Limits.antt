@@ -1,12 +1,6 @@
 -- The limits of a pool's month. Assumes nothing.
 use Rattle.std.specs.Prelude.{ℕ, ◌*◌}
-
--- the shortest and the longest month, in days
-abbrev pub least_days : ℕ
-least_days = 28
-
-abbrev pub most_days : ℕ
-most_days = 31
+use Rattle.rules.specs.Days.{most_days}
 
 -- the members of a full pool
 abbrev pub most_members : ℕ

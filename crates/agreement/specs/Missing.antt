@@ -2,7 +2,8 @@
 use Rattle.std.specs.Prelude.{ℕ, ◌+◌, true, false, List, [], ◌∷◌, Some, None, Option}
 use Rattle.agreement.specs.declared.refusals.Refusal.{Refusal}
 use Rattle.agreement.specs.declared.refusals.Refusal.TheVariants.{ReadMissing}
-use Rattle.agreement.specs.Book.{Day, Member, is_unread}
+use Rattle.agreement.specs.declared.day.Day.{Day}
+use Rattle.agreement.specs.Book.{Member, is_unread}
 
 -- the first unread of some days, where the first of the list has the number n
 abbrev pub unread_from : ℕ → List Day → Option ℕ

@@ -2,9 +2,8 @@
 use Rattle.std.specs.Prelude.{ℕ, Bool, not, ◌&&◌, [], ◌∷◌, Result, nat_le}
 use Rattle.agreement.specs.declared.refusals.Refusal.{Refusal}
 use Rattle.agreement.specs.declared.refusals.Refusal.TheVariants.{MonthLength}
-use Rattle.agreement.specs.Limits.{least_days, most_days}
-use Rattle.agreement.specs.Refusals.{unless}
-use Rattle.schedule.specs.Checks.{◌when◌, first}
+use Rattle.rules.specs.Checks.{◌when◌, first, unless}
+use Rattle.rules.specs.Days.{is_month_length}
 
 -- whether a month of so many days has this day; days count from 1
 abbrev pub has_day : ℕ → ℕ → Bool
@@ -12,4 +11,4 @@ has_day day days = nat_le 1 day && nat_le day days
 
 -- the test of a number of days, before a month is set up with it
 abbrev pub checked : ℕ → Result ℕ Refusal
-checked days = unless (first (MonthLength when not (nat_le least_days days && nat_le days most_days) ∷ [])) days
+checked days = unless (first (MonthLength when not (is_month_length days) ∷ [])) days

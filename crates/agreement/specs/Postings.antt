@@ -1,8 +1,8 @@
 -- How a call changes the plain book: its members, the days of one of them, a notice, or the status. Assumes nothing.
-use Rattle.std.specs.Prelude.{ℕ, ◌+◌, ◌-◌, Bool, true, false, cond, ◌||◌, List, [], ◌∷◌, ◌==◌, slice_set}
-use Rattle.agreement.specs.declared.readings.Reading.{Reading}
+use Rattle.std.specs.Prelude.{ℕ, ◌+◌, ◌-◌, Bool, true, false, cond, ◌||◌, List, [], ◌∷◌, ◌==◌, Option, slice_set}
 use Rattle.agreement.specs.declared.status.Status.{Status}
-use Rattle.agreement.specs.Book.{Book, Day, Member}
+use Rattle.agreement.specs.declared.day.Day.{Day}
+use Rattle.agreement.specs.Book.{Book, Member}
 
 -- whether a member has this account number
 abbrev pub enrolled : ℕ → List Member → Bool
@@ -39,7 +39,7 @@ on_days chosen change m = record { account = m.account; retention = m.retention;
 abbrev pub with_nomination : ℕ → Day → Day
 with_nomination therms day = record { nominated = therms; reading = day.reading; received = day.received }
 
-abbrev pub with_reading : Reading → Day → Day
+abbrev pub with_reading : Option ℕ → Day → Day
 with_reading new day = record { nominated = day.nominated; reading = new; received = day.received }
 
 abbrev pub with_receipt : ℕ → Day → Day

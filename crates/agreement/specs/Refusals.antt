@@ -1,5 +1,5 @@
--- Refusals: their numbers, and what a call answers. Assumes nothing.
-use Rattle.std.specs.Prelude.{ℕ, Some, None, Ok, Err, Option, Result}
+-- The numbers of refusals. Assumes nothing.
+use Rattle.std.specs.Prelude.{ℕ}
 use Rattle.agreement.specs.declared.refusals.Refusal.{Refusal}
 use Rattle.agreement.specs.declared.refusals.Refusal.TheVariants.{MonthLength, MonthClosed, PoolFull, AccountZero, AlreadyEnrolled, RetentionTooHigh, NotEnrolled, NoSuchDay, TooManyTherms, NoMember, ReadMissing, NotClosed}
 
@@ -17,8 +17,3 @@ number_of TooManyTherms = 18
 number_of NoMember = 22
 number_of (ReadMissing member day) = 23
 number_of NotClosed = 31
-
--- what is answered: the refusal where there is one, else the value
-abbrev pub unless : {X : Type 0} → Option Refusal → X → Result X Refusal
-unless None value = Ok value
-unless (Some refusal) value = Err refusal

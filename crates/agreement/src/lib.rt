@@ -4,18 +4,18 @@
 
 mod bills;
 mod calls;
+mod day;
 mod days;
-mod gas;
 mod limits;
-mod readings;
 mod refusals;
 mod status;
 
 pub use bills::Bill;
-pub use calls::Call;
+pub use calls::{Call, Posting};
+pub use day::Day;
 pub use days::Days;
-pub use gas::Gas;
-pub use limits::{LEAST_DAYS, MOST_DAYS, MOST_MEMBERS, MOST_RETENTION, MOST_THERMS};
-pub use readings::Reading;
+pub use limits::{MOST_MEMBERS, MOST_RETENTION, MOST_THERMS};
 pub use refusals::Refusal;
+pub use rules::{LEAST_DAYS, MOST_DAYS};
+pub use schedule::Gas;
 pub use status::Status;

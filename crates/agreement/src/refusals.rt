@@ -31,6 +31,7 @@ pub enum Refusal {
 }
 
 impl Refusal {
+    // By cases, since a refusal with fields is no number.
     pub fn number(self) -> u8
         ensures { result ≡ number_of self }
     {

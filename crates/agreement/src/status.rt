@@ -2,7 +2,7 @@
 ghost use Rattle.std.specs.Prelude.{◌≡◌};
 ghost use Rattle.agreement.specs.Book.{is_closed};
 
-#[derive(Clone, Copy)]
+#[derive(Clone, Copy, PartialEq, Eq, Debug)]
 pub enum Status {
     Open,
     Closed,
@@ -12,9 +12,6 @@ impl Status {
     pub fn is_closed(self) -> bool
         ensures { result ≡ is_closed self }
     {
-        match self {
-            Status::Open => false,
-            Status::Closed => true,
-        }
+        self == Status::Closed
     }
 }

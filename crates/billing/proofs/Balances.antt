@@ -1,68 +1,43 @@
 -- What the accepted calls on an account added is what its balance changed by.
-use Rattle.std.proofs.Common.{◌≡◌, ℕ, ◌+◌, ◌<◌, Bool, true, false, cond, eqb, List, [], ◌∷◌, ◌++◌, length, get_or, take, drop, set, ℤ, pos, ◌+ℤ◌, Some, None, Ok, Err, Option, Result, sym, refl, ap, ◌∙◌, subst, arith, eq-eqb, eqb-true}
+use Rattle.std.proofs.Common.{◌≡◌, ℕ, ◌+◌, ◌<◌, Bool, true, false, cond, eqb, List, [], ◌∷◌, ◌++◌, length, get_or, take, drop, set, ℤ, pos, ◌+ℤ◌, Some, None, Ok, Err, Option, Result, sym, refl, ap, ◌∙◌, subst, arith}
 use Rattle.std.proofs.lemmas.Int.{ints}
 use Rattle.std.proofs.lemmas.List.{take_more, drop_more, set_at, append_assoc, length-take-le}
 use Rattle.billing.specs.declared.account.Account.{Account}
 use Rattle.billing.specs.declared.entries.Call.{Call}
 use Rattle.billing.specs.declared.entries.Entry.{Entry}
 use Rattle.billing.specs.declared.refusals.Refusal.{Refusal}
-use Rattle.billing.specs.Refusals.{first, unless, changed_unless, refusal_of}
+use Rattle.rules.specs.Checks.{first, unless, changed_unless, refusal_of}
 use Rattle.billing.specs.declared.keeping.Keeping.{Keeping}
 use Rattle.billing.specs.declared.keeping.Numbered.{Ghosts}
 use Rattle.billing.specs.Keepings.{kept, found, replaced, Leaves}
 use Rattle.billing.specs.Accounts.{account, account_number, balance_found, balance_of, added, entry_checks, call_refusal, answer, after}
 use Rattle.billing.specs.Runs.{answers, after_all, cents, sum_added}
-use Rattle.billing.proofs.Memory.{leaves_as, leaves_next}
-use Rattle.billing.proofs.Placed.{took, left}
+use Rattle.billing.proofs.Memory.{leaves_next}
+use Rattle.std.proofs.lemmas.Bool.Decides.{nat_tests}
 
 module _ {R : Type 0} (f : R → ℕ) (x : R) where
-  pub found_replaced : (xs : List R) (a : R) → found f (f x) xs ≡ Ok a → found f (f x) (replaced f x xs) ≡ Ok x
-  found_replaced [] a e = let z : ◌≡◌ {A = ℕ} 0 1 = cc in absurd (omega arith)
-  found_replaced (y ∷ ys) a e =
-      let P : Bool → Type 0 = λ b. eqb (f y) (f x) ≡ b → cond b (Ok y) (found f (f x) ys) ≡ Ok a → found f (f x) (cond b (x ∷ ys) (y ∷ replaced f x ys)) ≡ Ok x in
-      let go : (b : Bool) → P b = λ b.
-      elim b as P [
-        | true ↦ λ t q. took (eqb (f x) (f x)) _ _ (eq-eqb (f x) (f x) refl)
-        | false ↦ λ t q. left (eqb (f y) (f x)) _ _ t ∙ found_replaced ys a q
-      ] in
-      go (eqb (f y) (f x)) refl e
+  found_replaced : (xs : List R) (a : R) → found f (f x) xs ≡ Ok a → found f (f x) (replaced f x xs) ≡ Ok x
+  found_replaced [] a e = grind (arith, e)
+  found_replaced (y ∷ ys) a e = grind (arith, nat_tests, e, found_replaced ys a)
 
-  pub found_elsewhere : (n : ℕ) (xs : List R) → eqb (f x) n ≡ false → found f n (replaced f x xs) ≡ found f n xs
+  found_elsewhere : (n : ℕ) (xs : List R) → eqb (f x) n ≡ false → found f n (replaced f x xs) ≡ found f n xs
   found_elsewhere n [] h = refl
-  found_elsewhere n (y ∷ ys) h =
-      let P : Bool → Type 0 = λ b. eqb (f y) (f x) ≡ b → found f n (cond b (x ∷ ys) (y ∷ replaced f x ys)) ≡ cond (eqb (f y) n) (Ok y) (found f n ys) in
-      let go : (b : Bool) → P b = λ b.
-      elim b as P [
-        | true ↦ λ t. left (eqb (f x) n) _ _ h ∙ sym (left (eqb (f y) n) _ _ (ap (λ m. eqb m n) (eqb-true (f y) (f x) t) ∙ h))
-        | false ↦ λ t. ap (λ r. cond (eqb (f y) n) (Ok y) r) (found_elsewhere n ys h)
-      ] in
-      go (eqb (f y) (f x)) refl
+  found_elsewhere n (y ∷ ys) h = grind (arith, nat_tests, h, found_elsewhere n ys h)
 
-  pub length-replaced : (xs : List R) → length (replaced f x xs) ≡ length xs
+  length-replaced : (xs : List R) → length (replaced f x xs) ≡ length xs
   length-replaced [] = refl
-  length-replaced (y ∷ ys) =
-      let on = length-replaced ys in
-      elim (eqb (f y) (f x)) as (λ b. length (cond b (x ∷ ys) (y ∷ replaced f x ys)) ≡ length (y ∷ ys)) [ true ↦ refl | false ↦ omega arith ]
-
-plus_none : (x : ℤ) → x ≡ x +ℤ pos 0
-plus_none x = omega (arith, ints)
+  length-replaced (y ∷ ys) = grind (arith, nat_tests, length-replaced ys)
 
 none_either : (b : Bool) (x : ℤ) → x ≡ x +ℤ cond b (pos 0) (pos 0)
-none_either true x = plus_none x
-none_either false x = plus_none x
+none_either true x = omega (arith, ints)
+none_either false x = omega (arith, ints)
 
 -- one call, on the balance of any account
 module _ (m n : ℕ) (entry : Entry) (xs : List Account) where
   accepted : (a : Account) (v : ℤ) → found account_number m xs ≡ Ok a → balance_of n (replaced account_number (account m (a.balance +ℤ v)) xs) ≡ balance_of n xs +ℤ cond (eqb m n) v (pos 0)
   accepted a v e =
       let x = account m (a.balance +ℤ v) in
-      let P : Bool → Type 0 = λ b. eqb m n ≡ b → balance_of n (replaced account_number x xs) ≡ balance_of n xs +ℤ cond b v (pos 0) in
-      let go : (b : Bool) → P b = λ b.
-      elim b as P [
-        | true ↦ λ t. subst (λ k. balance_of k (replaced account_number x xs) ≡ balance_of k xs +ℤ v) (eqb-true m n t) (ap balance_found (found_replaced account_number x xs a e) ∙ ap (λ r. balance_found r +ℤ v) (sym e))
-        | false ↦ λ t. ap balance_found (found_elsewhere account_number x n xs t) ∙ plus_none (balance_of n xs)
-      ] in
-      go (eqb m n) refl
+      grind (arith, ints, nat_tests, e, found_replaced account_number x xs a e, found_elsewhere account_number x n xs)
 
   step : (r : Result Account Refusal) (checks : List (Option Refusal)) → found account_number m xs ≡ r → balance_of n (changed_unless (first (refusal_of r ∷ checks)) xs (replaced account_number (account m (balance_found r +ℤ added entry (balance_found r))) xs)) ≡ balance_of n xs +ℤ cond (eqb m n) (cents (unless (first (refusal_of r ∷ checks)) (added entry (balance_found r)))) (pos 0)
   step (Err e) checks q = none_either (eqb m n) (balance_of n xs)
@@ -79,7 +54,7 @@ regroup x y z s t p q = omega (arith, ints)
 
 -- a run of calls, on the balance of any account
 pub balance_adds_up : (n : ℕ) (cs : List Call) (xs : List Account) → balance_of n (after_all cs xs) ≡ balance_of n xs +ℤ sum_added n cs (answers cs xs)
-balance_adds_up n [] xs = plus_none (balance_of n xs)
+balance_adds_up n [] xs = none_either true (balance_of n xs)
 balance_adds_up n (c ∷ cs) xs =
     regroup (balance_of n (after_all cs (after c.account c.entry xs))) (balance_of n (after c.account c.entry xs)) (balance_of n xs) (sum_added n cs (answers cs (after c.account c.entry xs))) (cond (eqb c.account n) (cents (answer c.account c.entry xs)) (pos 0)) (balance_adds_up n cs (after c.account c.entry xs)) (stepped c.account n c.entry xs)
 
@@ -106,12 +81,12 @@ module _ (cs : List Call) (xs : List Account) (i : ℕ) (d : Call) (h : i < leng
   after_all_more : after_all (take (i + 1) cs) xs ≡ after (get_or cs i d).account (get_or cs i d).entry (after_all (take i cs) xs)
   after_all_more = ap (λ l. after_all l xs) (take_more cs i d h) ∙ after_all_append (take i cs) (get_or cs i d ∷ []) xs
 
-  pub leaves_more : {g : Ghosts Account} (j k l : Keeping Account g) → Leaves account_number j k (after_all (take i cs) xs) → Leaves account_number k l (after (get_or cs i d).account (get_or cs i d).entry (kept k)) → Leaves account_number j l (after_all (take (i + 1) cs) xs)
+  pub leaves_more : {g : Ghosts Account} (j k l : Keeping Account g) → Leaves j k (after_all (take i cs) xs) → Leaves k l (after (get_or cs i d).account (get_or cs i d).entry (kept k)) → Leaves j l (after_all (take (i + 1) cs) xs)
   leaves_more j k l a b =
       let c = get_or cs i d in
       let ys = after c.account c.entry (after_all (take i cs) xs) in
-      let b' = leaves_as account_number k l _ ys (ap (after c.account c.entry) a.keeps) b in
-      leaves_as account_number j l ys _ (sym after_all_more) (leaves_next account_number j k l (after_all (take i cs) xs) ys (length-after c.account c.entry (after_all (take i cs) xs)) a b')
+      let b' : Leaves k l ys = subst (λ zs. Leaves k l (after c.account c.entry zs)) a.keeps b in
+      subst (Leaves j l) (sym after_all_more) (leaves_next j k l (after_all (take i cs) xs) ys (length-after c.account c.entry (after_all (take i cs) xs)) a b')
 
   -- the answer of the call goes to its place in memory that is lent for the answers
   pub answers_more : {g : Ghosts Account} (k : Keeping Account g) (told now : List (Result ℤ Refusal)) (r : Result ℤ Refusal) → i < length told → kept k ≡ after_all (take i cs) xs → now ≡ answers (take i cs) xs ++ drop i told → r ≡ answer (get_or cs i d).account (get_or cs i d).entry (kept k) → set now i r ≡ answers (take (i + 1) cs) xs ++ drop (i + 1) told

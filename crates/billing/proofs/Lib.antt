@@ -1,8 +1,6 @@
-pub mod Placed
-pub mod Rise
+pub mod Search
 pub mod Shift
 pub mod Memory
-pub mod Products
 pub mod Rows
 pub mod Balances
 mod Within

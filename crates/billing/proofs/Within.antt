@@ -1,6 +1,7 @@
 -- No call takes a balance beyond the limit.
-use Rattle.std.proofs.Common.{◌≡◌, ℕ, Bool, true, false, cond, eqb, ltb, List, [], ◌∷◌, ◌+ℤ◌, nat_abs, Some, None, Option, refl, arith, ltb-false}
-use Rattle.billing.specs.Refusals.{◌when◌, first, changed_unless, refusal_of}
+use Rattle.std.proofs.Common.{◌≡◌, ℕ, Bool, true, false, ltb, List, [], ◌∷◌, ◌+ℤ◌, nat_abs, Some, None, Option, refl, arith, ltb-false}
+use Rattle.std.proofs.lemmas.Bool.Decides.{nat_tests}
+use Rattle.rules.specs.Checks.{◌when◌, first, changed_unless, refusal_of}
 use Rattle.billing.specs.declared.account.Account.{Account}
 use Rattle.billing.specs.declared.entries.Call.{Call}
 use Rattle.billing.specs.declared.entries.Entry.{Entry}
@@ -12,15 +13,14 @@ use Rattle.billing.specs.Accounts.{account, account_number, added, balance_of, c
 use Rattle.billing.specs.Runs.{after_all}
 
 last_passed : (o p : Option Refusal) (t : Bool) → first (o ∷ p ∷ BalanceTooLarge when t ∷ []) ≡ None → t ≡ false
-last_passed (Some e) p t q = let z : ◌≡◌ {A = ℕ} 0 1 = cc in absurd (omega arith)
-last_passed None (Some e) t q = let z : ◌≡◌ {A = ℕ} 0 1 = cc in absurd (omega arith)
-last_passed None None true q = let z : ◌≡◌ {A = ℕ} 0 1 = cc in absurd (omega arith)
+last_passed (Some e) p t q = grind (arith, q)
+last_passed None (Some e) t q = grind (arith, q)
+last_passed None None true q = grind (arith, q)
 last_passed None None false q = refl
 
 replaced_within : (x : Account) (xs : List Account) → IsWithin x → WithinLimit xs → WithinLimit (replaced account_number x xs)
 replaced_within x [] h w = tt
-replaced_within x (y ∷ ys) h w =
-    elim (eqb (account_number y) (account_number x)) as (λ b. WithinLimit (cond b (x ∷ ys) (y ∷ replaced account_number x ys))) [ true ↦ (h, w.1) | false ↦ (w.0, replaced_within x ys h w.1) ]
+replaced_within x (y ∷ ys) h w = grind (arith, nat_tests, h, w, replaced_within x ys h)
 
 after_within : (n : ℕ) (entry : Entry) (xs : List Account) → WithinLimit xs → WithinLimit (after n entry xs)
 after_within n entry xs w =

@@ -7,7 +7,7 @@ use Rattle.billing.specs.declared.entries.Entry.TheVariants.{Post, Pay, Late}
 use Rattle.billing.specs.declared.refusals.Refusal.{Refusal}
 use Rattle.billing.specs.declared.refusals.Refusal.TheVariants.{AmountTooLarge, BalanceTooLarge}
 use Rattle.billing.specs.Limits.{most_amount, most_balance}
-use Rattle.billing.specs.Refusals.{◌when◌, first, unless, changed_unless, refusal_of}
+use Rattle.rules.specs.Checks.{◌when◌, first, unless, changed_unless, refusal_of}
 use Rattle.billing.specs.Keepings.{found, replaced}
 use Rattle.billing.specs.Late.{late}
 

@@ -6,8 +6,7 @@ use Rattle.billing.specs.declared.keeping.Keeping.{Keeping}
 use Rattle.billing.specs.declared.keeping.Numbered.{Ghosts}
 use Rattle.billing.specs.declared.refusals.Refusal.{Refusal}
 use Rattle.billing.specs.declared.refusals.Refusal.TheVariants.{KeepingFull, NumberInUse, NoSuchNumber}
-use Rattle.billing.specs.Refusals.{◌when◌, first, changed_unless, refusal_of}
-use Rattle.billing.specs.Order.{Rising}
+use Rattle.rules.specs.Checks.{◌when◌, first, changed_unless, refusal_of}
 
 -- all the memory lent
 abbrev pub lent : {R : Type 0} {g : Ghosts R} → Keeping R g → List R
@@ -58,12 +57,10 @@ module _ {R : Type 0} (f : R → ℕ) where
   after_change x xs = changed_unless (change_refusal x xs) xs (replaced x xs)
 
 -- A call left a keeping with these records.
-pub record Leaves {R : Type 0} {g : Ghosts R} (f : R → ℕ) (before after : Keeping R g) (records : List R) : Type 0 where
+pub record Leaves {R : Type 0} {g : Ghosts R} (before after : Keeping R g) (records : List R) : Type 0 where
   -- they are kept
   pub keeps : kept after ≡ records
   -- the places beyond them hold what they held
   pub memory : lent after ≡ over records (lent before)
-  -- numbers that rose still rise
-  pub rises : Rising f (kept before) → Rising f records
   -- the memory is the one that was lent
   pub lender : after.slots.ghost_name ≡ before.slots.ghost_name

@@ -9,14 +9,6 @@ most_monthly_cents = 1000000
 abbrev pub most_rate : ℕ
 most_rate = 9999999
 
--- the days of the shortest month
-abbrev pub least_days : ℕ
-least_days = 28
-
--- the days of the longest month
-abbrev pub most_days : ℕ
-most_days = 31
-
 -- the most gas of a bill, in therms
 abbrev pub most_therms : ℕ
 most_therms = 1550000

@@ -1,15 +1,18 @@
 -- Where a number stands in a list of records, or would stand. Assumes nothing.
-use Rattle.std.specs.Prelude.{ℕ, ◌+◌, cond, List, [], ◌∷◌, Ok, Err, Result, ◌==◌, nat_le}
-use Rattle.billing.specs.declared.refusals.Refusal.{Refusal}
-use Rattle.billing.specs.declared.refusals.Refusal.TheVariants.{NoSuchNumber}
+use Rattle.std.specs.Prelude.{◌≡◌, ℕ, ◌<◌, ◌≤◌, List, length, slice_index_or}
 
-module _ {R : Type 0} (f : R → ℕ) where
-  -- the place of the first record with the number n, in a list whose first record stands at i
-  abbrev pub place_from : ℕ → ℕ → List R → Result ℕ Refusal
-  place_from n i [] = Err NoSuchNumber
-  place_from n i (x ∷ xs) = cond (f x == n) (Ok i) (place_from n (i + 1) xs)
+-- The record with the number n stands at the place i.
+pub record IsAt {R : Type 0} (f : R → ℕ) (n : ℕ) (xs : List R) (i : ℕ) : Type 0 where
+  -- there is such a place
+  pub in_range : i < length xs
+  -- the record there has the number
+  pub has_number : (d : R) → f (slice_index_or xs i d) ≡ n
 
-  -- how many records stand before the first whose number is not below n
-  abbrev pub place_before : ℕ → List R → ℕ
-  place_before n [] = 0
-  place_before n (x ∷ xs) = cond (nat_le n (f x)) 0 (place_before n xs + 1)
+-- A record with the number n would stand at the place i.
+pub record IsGapFor {R : Type 0} (f : R → ℕ) (n : ℕ) (xs : List R) (i : ℕ) : Type 0 where
+  -- at the end, or at the place of a record
+  pub in_range : i ≤ length xs
+  -- the numbers before it are below n
+  pub below : (j : ℕ) (d : R) → j < i → f (slice_index_or xs j d) < n
+  -- those from it on are above n
+  pub above : (j : ℕ) (d : R) → i ≤ j → j < length xs → n < f (slice_index_or xs j d)

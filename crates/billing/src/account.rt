@@ -1,7 +1,8 @@
 // Accounts, and what the calls add to a balance. Amounts and balances are in cents; a balance below 0 is credit.
 ghost use Rattle.std.specs.Prelude.{◌≡◌, ◌≤◌, pos, ◌+ℤ◌, IfOk, nat_lt, unsigned_abs};
-ghost use Rattle.billing.specs.Limits.{most_balance};
-ghost use Rattle.billing.specs.Refusals.{unless};
+ghost use Rattle.billing.specs.declared.refusals.Refusal.TheVariants.{AmountTooLarge};
+ghost use Rattle.billing.specs.Limits.{most_amount, most_balance};
+ghost use Rattle.rules.specs.Checks.{◌when◌, unless};
 ghost use Rattle.billing.specs.Late.{late};
 ghost use Rattle.billing.specs.Accounts.{account, added, amount_refusal, entry_refusal};
 
@@ -11,7 +12,7 @@ use crate::limits::{FIRST_OWED, MOST_AMOUNT, MOST_BALANCE};
 use crate::refusals::Refusal;
 use crate::rounding::halves_up;
 
-#[derive(Clone, Copy)]
+#[derive(Clone, Copy, PartialEq, Eq, Debug)]
 pub struct Account {
     pub(crate) number: u32,
     pub(crate) balance: i64,
@@ -44,24 +45,24 @@ pub fn late_charge(balance: i64) -> i64
     halves_up(10 * first + 3 * (owed - first), 100) as i64
 }
 
+// An amount that is handed over, if it is within the limit.
+fn within_limit(amount: i64) -> Result<i64, Refusal>
+    ensures { result ≡ unless (AmountTooLarge when nat_lt most_amount (unsigned_abs amount)) amount }
+{
+    if is_beyond(amount as i128, MOST_AMOUNT) {
+        return Err(Refusal::AmountTooLarge);
+    }
+    Ok(amount)
+}
+
 impl Entry {
     // What the entry adds to a balance, if its amount is within the limit.
     fn adds(self, balance: i64) -> Result<i64, Refusal>
         ensures { result ≡ unless (amount_refusal self) (added self balance) }
     {
         match self {
-            Entry::Post { amount } => {
-                if is_beyond(amount as i128, MOST_AMOUNT) {
-                    return Err(Refusal::AmountTooLarge);
-                }
-                Ok(amount)
-            }
-            Entry::Pay { amount } => {
-                if is_beyond(amount as i128, MOST_AMOUNT) {
-                    return Err(Refusal::AmountTooLarge);
-                }
-                Ok(-amount)
-            }
+            Entry::Post { amount } => within_limit(amount),
+            Entry::Pay { amount } => Ok(-within_limit(amount)?),
             Entry::Late => Ok(late_charge(balance)),
         }
     }
@@ -78,8 +79,7 @@ impl Account {
     pub fn balance(self) -> i64
         ensures { result ≡ self.balance }
     {
-        let Account { balance, .. } = self;
-        balance
+        self.balance
     }
 
     // What the entry adds to the balance, if the balance stays within the limit.

@@ -1,5 +1,7 @@
 // What is entered in an account, with amounts in cents.
-#[derive(Clone, Copy)]
+ghost use Rattle.std.specs.Prelude.{◌≡◌};
+
+#[derive(Clone, Copy, PartialEq, Eq, Debug)]
 pub enum Entry {
     // Adds an amount to the balance.
     Post { amount: i64 },
@@ -10,8 +12,21 @@ pub enum Entry {
 }
 
 // A call on the account with this number.
-#[derive(Clone, Copy)]
+#[derive(Clone, Copy, PartialEq, Eq, Debug)]
 pub struct Call {
     pub account: u32,
     pub entry: Entry,
+}
+
+impl Entry {
+    // The call that makes this entry in the account with this number.
+    pub(crate) fn on(self, account: u32) -> Call
+        ensures account { result.account ≡ account }
+        ensures entry { result.entry ≡ self }
+    {
+        Call {
+            account,
+            entry: self,
+        }
+    }
 }

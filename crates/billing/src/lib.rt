@@ -10,7 +10,6 @@ mod limits;
 mod records;
 mod refusals;
 mod rounding;
-mod scan;
 mod sheet;
 
 pub use account::{Account, late_charge};

@@ -6,11 +6,6 @@ pub const MOST_MONTHLY_CENTS: u32 = 1_000_000;
 // The highest rate, in millionths of a dollar a therm.
 pub const MOST_RATE: u32 = 9_999_999;
 
-// The days of the shortest and of the longest month.
-pub const LEAST_DAYS: u8 = 28;
-
-pub const MOST_DAYS: u8 = 31;
-
 // The most gas of a bill, in therms.
 pub const MOST_THERMS: u32 = 1_550_000;
 

@@ -1,11 +1,12 @@
 // The calls of a keeping.
-ghost use Rattle.std.specs.Prelude.{◌≡◌, [], length};
-ghost use Rattle.billing.specs.Refusals.{unless};
+ghost use Rattle.std.specs.Prelude.{◌≡◌, [], IfOk, IfErr};
+ghost use Rattle.rules.specs.Checks.{unless};
+ghost use Rattle.billing.specs.Order.{Rising};
+ghost use Rattle.billing.specs.Places.{IsAt, IsGapFor};
 ghost use Rattle.billing.specs.Keepings.{kept, lent, room, found, add_refusal, after_adding, after_change, change_refusal, Leaves};
 
 use crate::keeping::{Keeping, Numbered};
 use crate::refusals::Refusal;
-use crate::scan::{place_for, place_of};
 
 impl<'a, R: Numbered> Keeping<'a, R> {
     // An empty keeping over the memory lent, which stays as it is.
@@ -19,51 +20,58 @@ impl<'a, R: Numbered> Keeping<'a, R> {
 
     // The records kept, in rising order of number.
     pub fn records(&self) -> &[R]
-        ensures { result.now ≡ kept self.now }
+        ensures all { result.now ≡ kept self.now }
+        ensures rises { Rising R.numbered result.now }
     {
-        let all = &*self.slots;
-        &all[0..self.len]
+        &self.slots[..self.len]
     }
 
-    // The record with this number.
-    pub fn find(&self, number: u32) -> Result<R, Refusal>
-        ensures { result ≡ found R.Numbered.numbered number (kept self.now) }
+    // The place of the record with this number, or else the one that a record with it would have.
+    fn search(&self, number: u32) -> Result<usize, usize>
+        ensures found { IfOk result (IsAt R.numbered number (kept self.now)) }
+        ensures absent { IfErr result (IsGapFor R.numbered number (kept self.now)) }
     {
-        let place = place_of(self.records(), number)?;
-        Ok(self.slots[place])
+        self.records()
+            .binary_search_by_key(&number, |record| record.number())
+    }
+
+    // The record with this number. A gap is turned into the refusal here and in `change`: a method that does it for both
+    // would be longer than the two.
+    pub fn find(&self, number: u32) -> Result<R, Refusal>
+        ensures { result ≡ found R.numbered number (kept self.now) }
+    {
+        match self.search(number) {
+            Ok(place) => Ok(self.slots[place]),
+            Err(_) => Err(Refusal::NoSuchNumber),
+        }
     }
 
     // Adds a record in the order of numbers; those above it move up by one.
     pub fn add(&mut self, newcomer: R) -> Result<(), Refusal>
-        ensures answer { result ≡ unless (add_refusal R.Numbered.numbered (room self.old) newcomer (kept self.old)) tt }
-        ensures leaves { Leaves R.Numbered.numbered self.old self.new (after_adding R.Numbered.numbered (room self.old) newcomer (kept self.old)) }
+        ensures answer { result ≡ unless (add_refusal R.numbered (room self.old) newcomer (kept self.old)) tt }
+        ensures leaves { Leaves self.old self.new (after_adding R.numbered (room self.old) newcomer (kept self.old)) }
     {
-        let number = newcomer.number();
-        if self.find(number).is_ok() {
+        let Err(place) = self.search(newcomer.number()) else {
             return Err(Refusal::NumberInUse);
-        }
+        };
         let len = self.len;
         if len == self.slots.len() {
             return Err(Refusal::KeepingFull);
         }
-        let place = place_for(self.records(), number);
-        let mut i = len;
-        while i > place {
-            let moved = self.slots[i - 1];
-            self.slots[i] = moved;
-            i -= 1;
-        }
-        self.slots[place] = newcomer;
+        self.slots[len] = newcomer;
+        self.slots[place..=len].rotate_right(1);
         self.len = len + 1;
         Ok(())
     }
 
     // Puts a record in the place of the one that has its number.
     pub fn change(&mut self, changed: R) -> Result<(), Refusal>
-        ensures answer { result ≡ unless (change_refusal R.Numbered.numbered changed (kept self.old)) tt }
-        ensures leaves { Leaves R.Numbered.numbered self.old self.new (after_change R.Numbered.numbered changed (kept self.old)) }
+        ensures answer { result ≡ unless (change_refusal R.numbered changed (kept self.old)) tt }
+        ensures leaves { Leaves self.old self.new (after_change R.numbered changed (kept self.old)) }
     {
-        let place = place_of(self.records(), changed.number())?;
+        let Ok(place) = self.search(changed.number()) else {
+            return Err(Refusal::NoSuchNumber);
+        };
         self.slots[place] = changed;
         Ok(())
     }

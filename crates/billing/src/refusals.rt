@@ -5,39 +5,29 @@ ghost use Rattle.billing.specs.Refusals.{number_of};
 #[derive(Clone, Copy, PartialEq, Eq, Debug)]
 pub enum Refusal {
     // No month has so many days.
-    MonthLength,
+    MonthLength = 1,
     // The memory lent has no place left.
-    KeepingFull,
+    KeepingFull = 51,
     // A record has this number already.
-    NumberInUse,
+    NumberInUse = 52,
     // No record has this number.
-    NoSuchNumber,
+    NoSuchNumber = 53,
     // An amount beyond ±200,000,000,000 cents.
-    AmountTooLarge,
+    AmountTooLarge = 54,
     // A monthly charge, a rate or the end of a block beyond the rules of a rate sheet.
-    BadSheet,
+    BadSheet = 55,
     // The balance would pass ±10^15 cents.
-    BalanceTooLarge,
+    BalanceTooLarge = 56,
     // More days served than the month has.
-    ServedTooLong,
+    ServedTooLong = 57,
     // More gas than a bill can have.
-    TooManyTherms,
+    TooManyTherms = 58,
 }
 
 impl Refusal {
     pub fn number(self) -> u8
         ensures { result ≡ number_of self }
     {
-        match self {
-            Refusal::MonthLength => 1,
-            Refusal::KeepingFull => 51,
-            Refusal::NumberInUse => 52,
-            Refusal::NoSuchNumber => 53,
-            Refusal::AmountTooLarge => 54,
-            Refusal::BadSheet => 55,
-            Refusal::BalanceTooLarge => 56,
-            Refusal::ServedTooLong => 57,
-            Refusal::TooManyTherms => 58,
-        }
+        self as u8
     }
 }

@@ -11,37 +11,21 @@ mod tests {
 
     const MOST: i64 = 200_000_000_000;
 
-    // The number that a call was refused by, or 0.
-    fn refused<T: Drop>(answer: Result<T, Refusal>) -> u8 {
-        match answer {
-            Ok(_) => 0,
-            Err(refusal) => refusal.number(),
-        }
-    }
-
-    // The cents that a call added, or none where it was refused.
-    fn added(answer: Result<i64, Refusal>) -> Option<i64> {
-        match answer {
-            Ok(cents) => Some(cents),
-            Err(_) => None,
-        }
+    // The number that a call was refused by; none where it was accepted.
+    fn refused<T: Drop>(answer: Result<T, Refusal>) -> Option<u8> {
+        answer.err().map(Refusal::number)
     }
 
     fn balance(accounts: &Keeping<Account>, number: u32) -> Option<i64> {
-        match accounts.find(number) {
-            Ok(account) => Some(account.balance()),
-            Err(_) => None,
-        }
+        accounts.find(number).ok().map(Account::balance)
     }
 
-    // The number of the record at a place, or 0.
-    fn number_at(accounts: &Keeping<Account>, place: usize) -> u32 {
-        let records = accounts.records();
-        if place < records.len() {
-            records[place].number()
-        } else {
-            0
-        }
+    // The number of the record at a place, if there is one.
+    fn number_at(accounts: &Keeping<Account>, place: usize) -> Option<u32> {
+        accounts
+            .records()
+            .get(place)
+            .map(|account| account.number())
     }
 
     fn three_blocks() -> Blocks {
@@ -67,18 +51,12 @@ mod tests {
         }
     }
 
-    fn gas_cents(answer: Result<Bill, Refusal>) -> u64 {
-        match answer {
-            Ok(bill) => bill.gas_cents,
-            Err(_) => 0,
-        }
+    fn gas_cents(answer: Result<Bill, Refusal>) -> Option<u64> {
+        answer.ok().map(|bill| bill.gas_cents)
     }
 
-    fn monthly_cents(answer: Result<Bill, Refusal>) -> u64 {
-        match answer {
-            Ok(bill) => bill.monthly_cents,
-            Err(_) => 0,
-        }
+    fn monthly_cents(answer: Result<Bill, Refusal>) -> Option<u64> {
+        answer.ok().map(|bill| bill.monthly_cents)
     }
 
     // Late on the amounts next to each edge, and none on credit.
@@ -106,17 +84,17 @@ mod tests {
         let mut memory = [Account::new(0); 3];
         let mut accounts = Keeping::new(&mut memory);
         assert_eq!(rt; accounts.records().len(), 0);
-        assert_eq!(rt; refused(accounts.find(20)), 53);
-        assert_eq!(rt; refused(accounts.add(Account::new(20))), 0);
-        assert_eq!(rt; refused(accounts.add(Account::new(10))), 0);
-        assert_eq!(rt; refused(accounts.add(Account::new(20))), 52);
-        assert_eq!(rt; refused(accounts.add(Account::new(15))), 0);
-        assert_eq!(rt; number_at(&accounts, 0), 10);
-        assert_eq!(rt; number_at(&accounts, 1), 15);
-        assert_eq!(rt; number_at(&accounts, 2), 20);
-        assert_eq!(rt; refused(accounts.add(Account::new(15))), 52);
-        assert_eq!(rt; refused(accounts.add(Account::new(30))), 51);
-        assert_eq!(rt; refused(accounts.change(Account::new(30))), 53);
+        assert_eq!(rt; refused(accounts.find(20)), Some(53));
+        assert_eq!(rt; refused(accounts.add(Account::new(20))), None);
+        assert_eq!(rt; refused(accounts.add(Account::new(10))), None);
+        assert_eq!(rt; refused(accounts.add(Account::new(20))), Some(52));
+        assert_eq!(rt; refused(accounts.add(Account::new(15))), None);
+        assert_eq!(rt; number_at(&accounts, 0), Some(10));
+        assert_eq!(rt; number_at(&accounts, 1), Some(15));
+        assert_eq!(rt; number_at(&accounts, 2), Some(20));
+        assert_eq!(rt; refused(accounts.add(Account::new(15))), Some(52));
+        assert_eq!(rt; refused(accounts.add(Account::new(30))), Some(51));
+        assert_eq!(rt; refused(accounts.change(Account::new(30))), Some(53));
         assert_eq!(rt; accounts.records().len(), 3);
     }
 
@@ -125,13 +103,13 @@ mod tests {
     fn added_last_and_nowhere(rt: HostRuntime) {
         let mut memory = [Account::new(0); 2];
         let mut accounts = Keeping::new(&mut memory);
-        assert_eq!(rt; refused(accounts.add(Account::new(1))), 0);
-        assert_eq!(rt; refused(accounts.add(Account::new(2))), 0);
-        assert_eq!(rt; number_at(&accounts, 1), 2);
+        assert_eq!(rt; refused(accounts.add(Account::new(1))), None);
+        assert_eq!(rt; refused(accounts.add(Account::new(2))), None);
+        assert_eq!(rt; number_at(&accounts, 1), Some(2));
         let mut nothing: [Account; 0] = [];
         let mut none = Keeping::new(&mut nothing);
-        assert_eq!(rt; refused(none.add(Account::new(1))), 51);
-        assert_eq!(rt; refused(none.post(1, 1)), 53);
+        assert_eq!(rt; refused(none.add(Account::new(1))), Some(51));
+        assert_eq!(rt; refused(none.post(1, 1)), Some(53));
     }
 
     // What the lender finds in its memory: the records, and beyond them what was there.
@@ -140,9 +118,9 @@ mod tests {
         let mut memory = [Account::new(9); 4];
         {
             let mut accounts = Keeping::new(&mut memory);
-            assert_eq!(rt; refused(accounts.add(Account::new(2))), 0);
-            assert_eq!(rt; refused(accounts.add(Account::new(1))), 0);
-            assert_eq!(rt; refused(accounts.post(2, 5)), 0);
+            assert_eq!(rt; refused(accounts.add(Account::new(2))), None);
+            assert_eq!(rt; refused(accounts.add(Account::new(1))), None);
+            assert_eq!(rt; refused(accounts.post(2, 5)), None);
         }
         assert_eq!(rt; memory[0].number(), 1);
         assert_eq!(rt; memory[1].number(), 2);
@@ -156,20 +134,20 @@ mod tests {
     fn amounts(rt: HostRuntime) {
         let mut memory = [Account::new(0); 2];
         let mut accounts = Keeping::new(&mut memory);
-        assert_eq!(rt; refused(accounts.add(Account::new(7))), 0);
-        assert_eq!(rt; refused(accounts.post(8, MOST + 1)), 53);
-        assert_eq!(rt; refused(accounts.post(7, MOST + 1)), 54);
-        assert_eq!(rt; refused(accounts.pay(7, -MOST - 1)), 54);
-        assert_eq!(rt; added(accounts.pay(7, MOST)), Some(-MOST));
+        assert_eq!(rt; refused(accounts.add(Account::new(7))), None);
+        assert_eq!(rt; refused(accounts.post(8, MOST + 1)), Some(53));
+        assert_eq!(rt; refused(accounts.post(7, MOST + 1)), Some(54));
+        assert_eq!(rt; refused(accounts.pay(7, -MOST - 1)), Some(54));
+        assert_eq!(rt; accounts.pay(7, MOST).ok(), Some(-MOST));
         assert_eq!(rt; balance(&accounts, 7), Some(-MOST));
-        assert_eq!(rt; added(accounts.late(7)), Some(0));
-        assert_eq!(rt; added(accounts.post(7, MOST)), Some(MOST));
+        assert_eq!(rt; accounts.late(7).ok(), Some(0));
+        assert_eq!(rt; accounts.post(7, MOST).ok(), Some(MOST));
         for _ in 0..5_000 {
             let _ = accounts.post(7, MOST);
         }
         assert_eq!(rt; balance(&accounts, 7), Some(1_000_000_000_000_000));
-        assert_eq!(rt; refused(accounts.post(7, 1)), 56);
-        assert_eq!(rt; refused(accounts.late(7)), 56);
+        assert_eq!(rt; refused(accounts.post(7, 1)), Some(56));
+        assert_eq!(rt; refused(accounts.late(7)), Some(56));
         assert_eq!(rt; balance(&accounts, 7), Some(1_000_000_000_000_000));
     }
 
@@ -178,7 +156,7 @@ mod tests {
     fn runs(rt: HostRuntime) {
         let mut memory = [Account::new(0); 2];
         let mut accounts = Keeping::new(&mut memory);
-        assert_eq!(rt; refused(accounts.add(Account::new(7))), 0);
+        assert_eq!(rt; refused(accounts.add(Account::new(7))), None);
         let calls = [
             Call {
                 account: 7,
@@ -199,9 +177,9 @@ mod tests {
         ];
         let mut answers: [Result<i64, Refusal>; 3] = [Ok(0); 3];
         assert_eq!(rt; accounts.run(&calls, &mut answers), 3);
-        assert_eq!(rt; added(answers[0]), Some(10_000));
-        assert_eq!(rt; refused(answers[1]), 53);
-        assert_eq!(rt; added(answers[2]), Some(321));
+        assert_eq!(rt; answers[0].ok(), Some(10_000));
+        assert_eq!(rt; refused(answers[1]), Some(53));
+        assert_eq!(rt; answers[2].ok(), Some(321));
         assert_eq!(rt; balance(&accounts, 7), Some(10_321));
     }
 
@@ -209,11 +187,11 @@ mod tests {
     #[test]
     fn sheets(rt: HostRuntime) -> Result<(), Fail> {
         let one = Blocks::One { rate: 9_999_999 };
-        assert_eq!(rt; refused(RateSheet::new(1, 1_000_000, one)), 0);
-        assert_eq!(rt; refused(RateSheet::new(1, 1_000_001, one)), 55);
+        assert_eq!(rt; refused(RateSheet::new(1, 1_000_000, one)), None);
+        assert_eq!(rt; refused(RateSheet::new(1, 1_000_001, one)), Some(55));
         assert_eq!(rt;
             refused(RateSheet::new(1, 0, Blocks::One { rate: 10_000_000 })),
-            55
+            Some(55)
         );
         let flat = Block { end: 10, rate: 1 };
         let level = Blocks::Three {
@@ -221,19 +199,19 @@ mod tests {
             second: flat,
             rate: 1,
         };
-        assert_eq!(rt; refused(RateSheet::new(1, 0, level)), 55);
+        assert_eq!(rt; refused(RateSheet::new(1, 0, level)), Some(55));
         let from_none = Blocks::Two {
             first: Block { end: 0, rate: 1 },
             rate: 1,
         };
-        assert_eq!(rt; refused(RateSheet::new(1, 0, from_none)), 55);
+        assert_eq!(rt; refused(RateSheet::new(1, 0, from_none)), Some(55));
         let sheet = RateSheet::new(1, 0, one)?;
         let mut memory = [sheet; 1];
         let mut sheets = Keeping::new(&mut memory);
-        assert_eq!(rt; refused(sheets.add_sheet(4, 1_475, three_blocks())), 0);
-        assert_eq!(rt; refused(sheets.add_sheet(4, 1_000_001, one)), 55);
-        assert_eq!(rt; refused(sheets.add_sheet(4, 0, one)), 52);
-        assert_eq!(rt; refused(sheets.add_sheet(5, 0, one)), 51);
+        assert_eq!(rt; refused(sheets.add_sheet(4, 1_475, three_blocks())), None);
+        assert_eq!(rt; refused(sheets.add_sheet(4, 1_000_001, one)), Some(55));
+        assert_eq!(rt; refused(sheets.add_sheet(4, 0, one)), Some(52));
+        assert_eq!(rt; refused(sheets.add_sheet(5, 0, one)), Some(51));
         Ok(())
     }
 
@@ -243,7 +221,7 @@ mod tests {
         let sheet = RateSheet::new(1, 1_475, three_blocks())?;
         let mut memory = [sheet; 1];
         let mut sheets = Keeping::new(&mut memory);
-        assert_eq!(rt; refused(sheets.add(sheet)), 0);
+        assert_eq!(rt; refused(sheets.add(sheet)), None);
         let gas: [(u32, u64); 7] = [
             (0, 0),
             (10, 384),
@@ -254,16 +232,22 @@ mod tests {
             (1, 38),
         ];
         for (therms, cents) in gas {
-            assert_eq!(rt; gas_cents(sheets.bill(1, usage(30, 30, therms))), cents);
+            assert_eq!(rt;
+                gas_cents(sheets.bill(1, usage(30, 30, therms))),
+                Some(cents)
+            );
         }
-        assert_eq!(rt; monthly_cents(sheets.bill(1, usage(30, 0, 0))), 0);
-        assert_eq!(rt; monthly_cents(sheets.bill(1, usage(30, 15, 0))), 738);
-        assert_eq!(rt; monthly_cents(sheets.bill(1, usage(30, 30, 0))), 1_475);
-        assert_eq!(rt; refused(sheets.bill(2, usage(27, 30, 1_550_001))), 53);
-        assert_eq!(rt; refused(sheets.bill(1, usage(27, 30, 1_550_001))), 1);
-        assert_eq!(rt; refused(sheets.bill(1, usage(32, 30, 0))), 1);
-        assert_eq!(rt; refused(sheets.bill(1, usage(30, 31, 1_550_001))), 57);
-        assert_eq!(rt; refused(sheets.bill(1, usage(30, 30, 1_550_001))), 58);
+        assert_eq!(rt; monthly_cents(sheets.bill(1, usage(30, 0, 0))), Some(0));
+        assert_eq!(rt; monthly_cents(sheets.bill(1, usage(30, 15, 0))), Some(738));
+        assert_eq!(rt;
+            monthly_cents(sheets.bill(1, usage(30, 30, 0))),
+            Some(1_475)
+        );
+        assert_eq!(rt; refused(sheets.bill(2, usage(27, 30, 1_550_001))), Some(53));
+        assert_eq!(rt; refused(sheets.bill(1, usage(27, 30, 1_550_001))), Some(1));
+        assert_eq!(rt; refused(sheets.bill(1, usage(32, 30, 0))), Some(1));
+        assert_eq!(rt; refused(sheets.bill(1, usage(30, 31, 1_550_001))), Some(57));
+        assert_eq!(rt; refused(sheets.bill(1, usage(30, 30, 1_550_001))), Some(58));
         Ok(())
     }
 
@@ -273,7 +257,7 @@ mod tests {
         let sheet = RateSheet::new(1, 1_475, Blocks::One { rate: 768_465 })?;
         let mut memory = [sheet; 1];
         let mut sheets = Keeping::new(&mut memory);
-        assert_eq!(rt; refused(sheets.add(sheet)), 0);
+        assert_eq!(rt; refused(sheets.add(sheet)), None);
         let month = Usage {
             days: 31,
             served: 31,

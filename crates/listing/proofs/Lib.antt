@@ -1,2 +1,2 @@
-pub mod Listed
-pub mod Written
+pub mod Adding
+pub mod Ending

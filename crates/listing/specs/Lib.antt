@@ -2,3 +2,5 @@
 pub mod Block
 pub mod Lines
 pub mod Listing
+pub mod Sheets
+pub mod Words

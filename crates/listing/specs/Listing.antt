@@ -1,9 +1,13 @@
 -- What is printed of a month. Assumes nothing.
-use Rattle.std.specs.Prelude.{ℕ, List, [], ◌∷◌, ◌++◌, length, ℤ, codes, decimal}
+use Rattle.std.specs.Prelude.{ℕ, List, [], ◌∷◌, ◌++◌, length, map, take, ℤ, codes, decimal}
 use Rattle.std.specs.List.{flat_map}
 use Rattle.std.specs.Fmt.{signed_decimal}
 use Rattle.agreement.specs.declared.bills.Bill.{Bill}
-use Rattle.month_format.specs.declared.fault.Fault.{Fault}
+use Rattle.agreement.specs.Limits.{most_members}
+use Rattle.month_meaning.specs.declared.fault.Fault as the_fault
+use Rattle.month_meaning.specs.Faults.{numbers}
+use Rattle.listing.specs.declared.listing.Listing.{Listing}
+use Rattle.listing.specs.declared.listing.Listing.TheVariants.{Closed, Open, Fault, FaultNumbers}
 use Rattle.listing.specs.Lines.{line}
 
 -- the days of the month and the number of members
@@ -26,7 +30,17 @@ closed_listing days bills total = head_line days (length bills) ++ (flat_map bil
 abbrev pub open_line : List ℕ
 open_line = line (codes "OPEN" ∷ [])
 
--- a fault: layer, number, record, byte, member and day
-abbrev pub fault_line : Fault → List ℕ
-fault_line fault =
-    line (codes "FAULT" ∷ decimal fault.layer ∷ decimal fault.number ∷ decimal fault.nth ∷ decimal fault.byte ∷ decimal fault.member ∷ decimal fault.day ∷ [])
+-- the six numbers of a fault: layer, number, record, byte, member and day
+abbrev pub numbers_line : List ℕ → List ℕ
+numbers_line numbers = line (codes "FAULT" ∷ map decimal numbers)
+
+-- a fault, by its numbers
+abbrev pub fault_line : the_fault.Fault → List ℕ
+fault_line fault = numbers_line (numbers fault)
+
+-- a listing: of more bills than a full pool has, the first ones are listed
+abbrev pub listing_text : Listing → List ℕ
+listing_text (Closed days bills total) = closed_listing days (take most_members bills.now) total
+listing_text Open = open_line
+listing_text (Fault fault) = fault_line fault
+listing_text (FaultNumbers numbers) = numbers_line numbers

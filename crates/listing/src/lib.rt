@@ -1,7 +1,8 @@
 // What is printed of a month: the bills of a closed one, that it is open, or the fault of a file.
 #![tactic(auto)]
 
-mod block;
 mod listing;
+mod sheet;
 
-pub use listing::{BLOCK, write_closed, write_fault, write_open};
+pub use listing::Listing;
+pub use sheet::BLOCK;

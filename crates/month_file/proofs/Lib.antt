@@ -1,1 +1,2 @@
 pub mod Fairly
+pub mod Turns

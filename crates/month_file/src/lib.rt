@@ -4,6 +4,7 @@
 mod book;
 mod file;
 mod posting;
+mod records;
 
 pub use book::MonthBook;
 pub use file::read_month;

@@ -3,30 +3,53 @@
 
 #[cfg(test)]
 mod tests {
+    use listing::BLOCK;
     use month_file::read_month;
-    use month_format::Fault;
     use month_listing::list_month;
+    use month_meaning::Fault;
     use std::alloc::AllocError;
     use std::test::Fail;
 
-    // The fault of a file that is read into no book; six zeros for none.
-    fn fault_of(file: &[u8]) -> Fault {
-        let mut book = None;
-        match read_month(&mut book, file) {
-            Ok(()) => fault(0, 0, 0, 0),
-            Err(fault) => fault,
+    // The six numbers of a fault.
+    #[derive(Clone, Copy, PartialEq, Eq, Debug)]
+    struct Numbers {
+        layer: u8,
+        number: u8,
+        nth: u32,
+        byte: u32,
+        member: u8,
+        day: u8,
+    }
+
+    impl From<Fault> for Numbers {
+        fn from(fault: Fault) -> Numbers {
+            Numbers {
+                layer: fault.layer().number(),
+                number: fault.number(),
+                nth: fault.nth(),
+                byte: fault.byte(),
+                member: fault.member(),
+                day: fault.day(),
+            }
         }
     }
 
-    fn fault(layer: u8, number: u8, nth: u32, byte: u32) -> Fault {
-        Fault {
+    // The fault of a file that is read into no book, if it has one.
+    fn fault_of(file: &[u8]) -> Option<Numbers> {
+        let mut book = None;
+        read_month(&mut book, file).err().map(Numbers::from)
+    }
+
+    // The fault of a refusal in a record, where no read is missing.
+    fn fault(layer: u8, number: u8, nth: u32, byte: u32) -> Option<Numbers> {
+        Some(Numbers {
             layer,
             number,
             nth,
             byte,
             member: 0,
             day: 0,
-        }
+        })
     }
 
     #[test]
@@ -51,7 +74,7 @@ mod tests {
     }
 
     // The fault of a file that has one record, a set-up; the prices are below 65,536.
-    fn fault_of_set_up(days: u8, bands: u8, average: u16, lowest: u16) -> Fault {
+    fn fault_of_set_up(days: u8, bands: u8, average: u16, lowest: u16) -> Option<Numbers> {
         let [a, b] = average.to_be_bytes();
         let [c, d] = lowest.to_be_bytes();
         fault_of(&[1, 0, 11, b'S', days, bands, 0, 0, a, b, 0, 0, c, d])
@@ -59,8 +82,8 @@ mod tests {
 
     #[test]
     fn set_ups_in_the_order_of_their_checks(rt: HostRuntime) {
-        assert_eq!(rt; fault_of_set_up(28, 6, 30_000, 30_000), fault(0, 0, 0, 0));
-        assert_eq!(rt; fault_of_set_up(31, 4, 0, 0), fault(0, 0, 0, 0));
+        assert_eq!(rt; fault_of_set_up(28, 6, 30_000, 30_000), None);
+        assert_eq!(rt; fault_of_set_up(31, 4, 0, 0), None);
         assert_eq!(rt; fault_of_set_up(27, 5, 30_001, 30_002), fault(2, 46, 1, 1));
         assert_eq!(rt; fault_of_set_up(27, 6, 30_001, 30_002), fault(3, 1, 1, 1));
         assert_eq!(rt; fault_of_set_up(28, 6, 30_001, 30_002), fault(3, 2, 1, 1));
@@ -78,7 +101,7 @@ mod tests {
     }
 
     // The fault of one record after a set-up and the enrolment of account 101.
-    fn fault_of_third(rt: HostRuntime, third: &[u8]) -> Result<Fault, Fail> {
+    fn fault_of_third(rt: HostRuntime, third: &[u8]) -> Result<Option<Numbers>, Fail> {
         let mut file = Vec::new(rt.alloc());
         file.extend_from_slice(&START)?;
         file.extend_from_slice(&[0, 6, b'E', 0, 0, 0, 101, 0])?;
@@ -88,7 +111,7 @@ mod tests {
 
     #[test]
     fn later_records(rt: HostRuntime) -> Result<(), Fail> {
-        assert_eq!(rt; fault_of_third(rt, &[])?, fault(0, 0, 0, 0));
+        assert_eq!(rt; fault_of_third(rt, &[])?, None);
         assert_eq!(rt; fault_of_third(rt, &[0, 1, b'W'])?, fault(2, 44, 3, 22));
         assert_eq!(rt; fault_of_third(rt, &[0, 2, b'W'])?, fault(1, 42, 3, 22));
         assert_eq!(rt; fault_of_third(rt, &[0, 2, b'w', 1])?, fault(2, 43, 3, 22));
@@ -140,11 +163,14 @@ mod tests {
         let told = fault_of_third(rt, &[0, 1, b'C'])?;
         assert_eq!(rt;
             told,
-            Fault {
+            Some(Numbers {
+                layer: 3,
+                number: 23,
+                nth: 3,
+                byte: 22,
                 member: 1,
                 day: 1,
-                ..fault(3, 23, 3, 22)
-            }
+            })
         );
         Ok(())
     }
@@ -172,7 +198,7 @@ mod tests {
     #[test]
     fn a_whole_month_is_listed(rt: HostRuntime) -> Result<(), Fail> {
         let file = two_members(rt)?;
-        let mut block = [7u8; 2048];
+        let mut block = [7u8; BLOCK];
         let end = list_month(&file, &mut block);
         assert_eq!(rt; file.len(), 777);
         assert_eq!(rt; end, 29);
@@ -193,15 +219,14 @@ mod tests {
     fn a_file_that_ends_early(rt: HostRuntime) -> Result<(), Fail> {
         let file = two_members(rt)?;
         for end in 2..file.len() {
-            let told = fault_of(&file[0..end]);
-            assert!(rt; told.number == 42 || told.number == 0);
+            assert!(rt; fault_of(&file[0..end]).is_none_or(|told| told.number == 42));
         }
         Ok(())
     }
 
     #[test]
     fn open_months_and_faults_are_listed(rt: HostRuntime) {
-        let mut block = [7u8; 2048];
+        let mut block = [7u8; BLOCK];
         let end = list_month(&START, &mut block);
         assert_eq!(rt; end, 5);
         assert!(rt; &block[0..5] == b"OPEN\n".as_slice());

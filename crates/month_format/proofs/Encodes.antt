@@ -1,7 +1,8 @@
 -- A record's bytes are taken apart into that record, and no other bytes are.
-use Rattle.std.proofs.Common.{◌≡◌, ℕ, zero, suc, ◌+◌, ◌-◌, ◌*◌, ◌/◌, ◌%◌, ◌<◌, Bool, true, false, cond, eqb, ◌⊎◌, List, [], ◌∷◌, ◌++◌, length, get_or, take, Ok, Err, Result, sym, refl, ap, ◌∙◌, inl, inr, ⊎_elim, arith, ne_eqb, eqb-true}
+use Rattle.std.proofs.Common.{◌≡◌, ℕ, zero, suc, ◌+◌, ◌-◌, ◌*◌, ◌/◌, ◌%◌, ◌<◌, Bool, true, false, cond, eqb, List, [], ◌∷◌, ◌++◌, length, get_or, take, Ok, Err, Result, sym, refl, ap, ◌∙◌, arith, ne_eqb}
 use Rattle.std.proofs.lemmas.List.{take_rest}
 use Rattle.agreement.specs.declared.calls.Call.{Call}
+use Rattle.agreement.specs.declared.calls.Posting.{Posting}
 use Rattle.agreement.specs.declared.calls.Call.TheVariants.{Enrol, Nominate, Read, Receive, Notify, Close}
 use Rattle.month_format.specs.declared.errors.RecordError.{RecordError}
 use Rattle.month_format.specs.declared.errors.RecordError.TheVariants.{UnknownLetter, WrongLength}
@@ -12,12 +13,15 @@ use Rattle.month_format.specs.Records.{sized, lettered, record_of, posting_of, p
 pub quad_back : (n : ℕ) → n / 16777216 * 16777216 + n / 65536 % 256 * 65536 + n / 256 % 256 * 256 + n % 256 ≡ n
 quad_back n = omega arith
 
+posting_back : (p : Posting) → ◌≡◌ {A = Posting} (record { account = quad_at (quad p.account) 0; day = p.day; therms = quad_at (quad p.therms) 0 }) p
+posting_back p = λ i. record { account = quad_back p.account i; day = p.day; therms = quad_back p.therms i }
+
 pub decodes : (e : Entry) → record_of (encode e) ≡ Ok e
 decodes (set_up d n a l) = λ i. Ok (set_up d n (quad_back a i) (quad_back l i))
 decodes (call (Enrol a r)) = λ i. Ok (call (Enrol (quad_back a i) r))
-decodes (call (Nominate a d t)) = λ i. Ok (call (Nominate (quad_back a i) d (quad_back t i)))
-decodes (call (Read a d t)) = λ i. Ok (call (Read (quad_back a i) d (quad_back t i)))
-decodes (call (Receive a d t)) = λ i. Ok (call (Receive (quad_back a i) d (quad_back t i)))
+decodes (call (Nominate p)) = ap (λ q. Ok (call (Nominate q))) (posting_back p)
+decodes (call (Read p)) = ap (λ q. Ok (call (Read q))) (posting_back p)
+decodes (call (Receive p)) = ap (λ q. Ok (call (Receive q))) (posting_back p)
 decodes (call (Notify d)) = refl
 decodes (call Close) = refl
 
@@ -41,13 +45,8 @@ quad_of_lem a b c d p q r s =
     let e3 : d ≡ n % 256 = omega arith in
     λ i. e0 i ∷ e1 i ∷ e2 i ∷ e3 i ∷ []
 
-pub pick : {X : Type 0} (b : Bool) (x y z : X) → cond b x y ≡ z → ((b ≡ true) × (x ≡ z)) ⊎ ((b ≡ false) × (y ≡ z))
-pick true x y z e = inl (refl, e)
-pick false x y z e = inr (refl, e)
-
 pub sized_ok : (fs : List ℕ) (n : ℕ) (x e : Entry) → sized fs n x ≡ Ok e → (length fs ≡ n) × (x ≡ e)
-sized_ok fs n x e q =
-    ⊎_elim (λ p. (eqb-true (length fs) n p.0, let r : ◌≡◌ {A = Result Entry RecordError} (Ok x) (Ok e) = p.1 in cc)) (λ p. let r : ◌≡◌ {A = Result Entry RecordError} (Err WrongLength) (Ok e) = p.1 in let z : ◌≡◌ {A = ℕ} 0 1 = cc in absurd (omega arith)) (pick (eqb (length fs) n) _ _ _ q)
+sized_ok fs n x e q = (grind arith, grind arith)
 
 module _ (fs : List ℕ) (small : AllBytes fs) where
   fields_S : length fs ≡ 10 → fs ≡ get_or fs 0 0 ∷ get_or fs 1 0 ∷ (quad (quad_at fs 2) ++ quad (quad_at fs 6))
@@ -69,19 +68,23 @@ module _ (fs : List ℕ) (small : AllBytes fs) where
 
 -- one letter's turn: the bytes are its record's, or another letter follows
 turn : (c letter n : ℕ) (fs : List ℕ) (x e : Entry) (other : Result Entry RecordError) → (length fs ≡ n → letter ∷ fs ≡ encode x) → (other ≡ Ok e → c ∷ fs ≡ encode e) → cond (eqb c letter) (sized fs n x) other ≡ Ok e → c ∷ fs ≡ encode e
-turn c letter n fs x e other here there q =
-    ⊎_elim (λ p. let s = sized_ok fs n x e p.1 in ap (λ b. b ∷ fs) (eqb-true c letter p.0) ∙ here s.0 ∙ ap encode s.1) (λ p. there p.1) (pick (eqb c letter) _ _ _ q)
+turn c letter n fs x e other here there q = grind (arith, here, there, sized_ok)
 
-posted_is : (b : Bool) (fs : List ℕ) (make : ℕ → ℕ → ℕ → Call) → posted (cond b (Ok (quad_at fs 0, get_or fs 4 0, quad_at fs 5)) (Err WrongLength)) make ≡ cond b (Ok (call (make (quad_at fs 0) (get_or fs 4 0) (quad_at fs 5)))) (Err WrongLength)
-posted_is true fs make = refl
-posted_is false fs make = refl
+-- the posting that nine bytes say
+abbrev said : List ℕ → Posting
+said fs = record { account = quad_at fs 0; day = get_or fs 4 0; therms = quad_at fs 5 }
+
+posted_is : (b : Bool) (p : Posting) (make : Posting → Call) → posted (cond b (Ok p) (Err WrongLength)) make ≡ cond b (Ok (call (make p))) (Err WrongLength)
+posted_is true p make = refl
+posted_is false p make = refl
 
 -- the turn of a letter that posts a figure
-turn_posting : (c letter : ℕ) (fs : List ℕ) (make : ℕ → ℕ → ℕ → Call) (e : Entry) (other : Result Entry RecordError) → (length fs ≡ 9 → letter ∷ fs ≡ encode (call (make (quad_at fs 0) (get_or fs 4 0) (quad_at fs 5)))) → (other ≡ Ok e → c ∷ fs ≡ encode e) → cond (eqb c letter) (posted (posting_of fs) make) other ≡ Ok e → c ∷ fs ≡ encode e
-turn_posting c letter fs make e other here there q = turn c letter 9 fs (call (make (quad_at fs 0) (get_or fs 4 0) (quad_at fs 5))) e other here there (ap (λ r. cond (eqb c letter) r other) (sym (posted_is (eqb (length fs) 9) fs make)) ∙ q)
+turn_posting : (c letter : ℕ) (fs : List ℕ) (make : Posting → Call) (e : Entry) (other : Result Entry RecordError) → (length fs ≡ 9 → letter ∷ fs ≡ encode (call (make (said fs)))) → (other ≡ Ok e → c ∷ fs ≡ encode e) → cond (eqb c letter) (posted (posting_of fs) make) other ≡ Ok e → c ∷ fs ≡ encode e
+turn_posting c letter fs make e other here there q = turn c letter 9 fs (call (make (said fs))) e other here there (ap (λ r. cond (eqb c letter) r other) (sym (posted_is (eqb (length fs) 9) (said fs) make)) ∙ q)
 
-not_ok : (r : RecordError) (e : Entry) → ◌≡◌ {A = Result Entry RecordError} (Err r) (Ok e) → ⊥
-not_ok r e q = let z : ◌≡◌ {A = ℕ} 0 1 = cc in omega arith
+-- an error is no value
+pub err_ok : {X Y : Type 0} (e : Y) (x : X) → ◌≡◌ {A = Result X Y} (Err e) (Ok x) → ⊥
+err_ok e x q = grind arith
 
 lettered_ok : (c : ℕ) (fs : List ℕ) (e : Entry) → AllBytes fs → lettered c fs ≡ Ok e → c ∷ fs ≡ encode e
 lettered_ok c fs e small =
@@ -92,7 +95,7 @@ lettered_ok c fs e small =
     (turn_posting c 71 fs Receive e _ (λ l. ap (λ t. 71 ∷ t) (fields_N fs small l))
     (turn c 87 1 fs _ e _ (λ l. ap (λ t. 87 ∷ t) (spread_is 1 fs l))
     (turn c 67 0 fs _ e _ (λ l. ap (λ t. 67 ∷ t) (spread_is 0 fs l))
-    (λ q. absurd (not_ok UnknownLetter e q))))))))
+    (λ q. absurd (err_ok UnknownLetter e q))))))))
 
 record_is : (c : ℕ) (fs : List ℕ) → record_of (c ∷ fs) ≡ lettered c fs
 record_is c fs =
@@ -100,5 +103,5 @@ record_is c fs =
     ap (λ b. cond b (Err UnknownLetter) (lettered c (take (length (c ∷ fs) - 1) fs))) some ∙ ap (lettered c) (take_rest (c ∷ fs) 1)
 
 pub encodes : (bs : List ℕ) (e : Entry) → AllBytes bs → record_of bs ≡ Ok e → bs ≡ encode e
-encodes [] e small q = absurd (not_ok UnknownLetter e q)
+encodes [] e small q = absurd (err_ok UnknownLetter e q)
 encodes (c ∷ fs) e small q = lettered_ok c fs e (λ k. small (suc k)) (sym (record_is c fs) ∙ q)

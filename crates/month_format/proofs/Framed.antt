@@ -1,17 +1,15 @@
 -- A frame is cut off and read, and nothing else is.
-use Rattle.std.proofs.Common.{◌≡◌, ℕ, zero, suc, ◌+◌, ◌*◌, ◌/◌, ◌%◌, ◌<◌, ◌≤◌, Bool, false, cond, ltb, List, [], ◌∷◌, ◌++◌, length, take, drop, Ok, Err, Result, sym, refl, ap, ◌∙◌, subst, ⊎_elim, arith, lit<, ltb-false, le-ltb}
+use Rattle.std.proofs.Common.{◌≡◌, ℕ, suc, ◌+◌, ◌*◌, ◌/◌, ◌%◌, ◌<◌, ◌≤◌, ltb, List, [], ◌∷◌, ◌++◌, length, take, drop, Ok, Err, Result, sym, refl, ap, ◌∙◌, subst, arith, le-ltb}
+use Rattle.std.proofs.lemmas.Bool.{cond-false}
+use Rattle.std.proofs.lemmas.Grind.{common_steps}
 use Rattle.std.proofs.lemmas.List.{take_at, drop_at, length-append, take-append-drop, length-take-le, get_or-drop, drop-drop}
 use Rattle.month_format.specs.declared.errors.BytesError.{BytesError}
-use Rattle.month_format.specs.declared.errors.BytesError.TheVariants.{CutShort}
 use Rattle.month_format.specs.declared.errors.RecordError.{RecordError}
 use Rattle.month_format.specs.Fields.{AllBytes}
 use Rattle.month_format.specs.Entries.{Entry, encode, frame}
 use Rattle.month_format.specs.Records.{record_of, size_of, cut_of, taken, beside, record_at}
 use Rattle.month_format.specs.Readings.{Reads}
-use Rattle.month_format.proofs.Encodes.{pick, decodes, encodes}
-
-pub passed : {X : Type 0} (b : Bool) (p q : X) → b ≡ false → cond b p q ≡ q
-passed b p q e = rw e
+use Rattle.month_format.proofs.Encodes.{decodes, encodes}
 
 abbrev Cut : Type 0
 Cut = Result (List ℕ × List ℕ) BytesError
@@ -25,7 +23,7 @@ cut_framed h l xs rest e =
     let fits : 2 + n ≤ length bs = omega arith in
     let front = take_at xs rest n e in
     let back = drop_at (h ∷ l ∷ xs) rest (2 + n) (omega arith) in
-    passed (ltb (length bs) 2) _ _ (le-ltb (length bs) 2 two) ∙ passed (ltb (length bs) (2 + n)) _ _ (le-ltb (length bs) (2 + n) fits) ∙ (λ i. Ok (front i, back i))
+    cond-false (ltb (length bs) 2) _ _ (le-ltb (length bs) 2 two) ∙ cond-false (ltb (length bs) (2 + n)) _ _ (le-ltb (length bs) (2 + n) fits) ∙ (λ i. Ok (front i, back i))
 
 pub reads : (e : Entry) (rest : List ℕ) → record_at (frame e ++ rest) ≡ Ok (e, rest)
 reads e rest =
@@ -40,12 +38,7 @@ pub record Cut-off (bs f r : List ℕ) : Type 0 where
   pub back : drop (2 + size_of bs) bs ≡ r
 
 cut_off : (bs f r : List ℕ) → cut_of bs ≡ Ok (f, r) → Cut-off bs f r
-cut_off bs f r q =
-    ⊎_elim (λ p. let w : ◌≡◌ {A = Cut} (Err CutShort) (Ok (f, r)) = p.1 in let z : ◌≡◌ {A = ℕ} 0 1 = cc in absurd (omega arith))
-    (λ p. ⊎_elim (λ s. let w : ◌≡◌ {A = Cut} (Err CutShort) (Ok (f, r)) = s.1 in let z : ◌≡◌ {A = ℕ} 0 1 = cc in absurd (omega arith))
-    (λ s. let w : ◌≡◌ {A = Cut} (Ok (take (size_of bs) (drop 2 bs), drop (2 + size_of bs) bs)) (Ok (f, r)) = s.1 in let v : ◌≡◌ {A = List ℕ × List ℕ} (take (size_of bs) (drop 2 bs), drop (2 + size_of bs) bs) (f, r) = cc in record { two = ltb-false (length bs) 2 p.0; fits = ltb-false (length bs) (2 + size_of bs) s.0; front = ap (λ x. x.0) v; back = ap (λ x. x.1) v })
-    (pick (ltb (length bs) (2 + size_of bs)) _ _ _ p.1))
-    (pick (ltb (length bs) 2) _ _ _ q)
+cut_off bs f r q = record { two = grind arith; fits = grind arith; front = grind arith; back = grind arith }
 
 pub record Read-off (bs : List ℕ) (e : Entry) (r : List ℕ) : Type 0 where
   pub bytes : List ℕ
@@ -53,21 +46,18 @@ pub record Read-off (bs : List ℕ) (e : Entry) (r : List ℕ) : Type 0 where
   pub is : record_of bytes ≡ Ok e
 
 beside_ok : (bs f r : List ℕ) (x : Result Entry RecordError) (e : Entry) (rest : List ℕ) → cut_of bs ≡ Ok (f, r) → record_of f ≡ x → beside x r ≡ Ok (e, rest) → Read-off bs e rest
-beside_ok bs f r (Ok e') e rest c p q = let v : ◌≡◌ {A = Entry × List ℕ} (e', r) (e, rest) = cc in record { bytes = f; cut = c ∙ ap (λ x. Ok (f, x.1)) v; is = p ∙ ap (λ x. Ok x.0) v }
-beside_ok bs f r (Err y) e rest c p q = let z : ◌≡◌ {A = ℕ} 0 1 = cc in absurd (omega arith)
+beside_ok bs f r (Ok e') e rest c p q = record { bytes = f; cut = grind arith; is = grind arith }
+beside_ok bs f r (Err y) e rest c p q = absurd (grind arith)
 
 read_off : (bs : List ℕ) (x : Cut) (e : Entry) (rest : List ℕ) → cut_of bs ≡ x → taken x ≡ Ok (e, rest) → Read-off bs e rest
 read_off bs (Ok p) e rest c q = beside_ok bs p.0 p.1 (record_of p.0) e rest c refl q
-read_off bs (Err y) e rest c q = let z : ◌≡◌ {A = ℕ} 0 1 = cc in absurd (omega arith)
+read_off bs (Err y) e rest c q = absurd (grind arith)
 
 pub bytes_drop : (n : ℕ) (bs : List ℕ) → AllBytes bs → AllBytes (drop n bs)
 bytes_drop n bs small k = omega (arith, get_or-drop n bs k 0, small (n + k))
 
 pub bytes_take : (n : ℕ) (bs : List ℕ) → AllBytes bs → AllBytes (take n bs)
-bytes_take zero bs small k = lit< tt
-bytes_take (suc n) [] small k = lit< tt
-bytes_take (suc n) (b ∷ bs) small zero = small zero
-bytes_take (suc n) (b ∷ bs) small (suc k) = bytes_take n bs (λ j. small (suc j)) k
+bytes_take n bs small k = grind (arith, common_steps, small k)
 
 pub is_frame : (bs : List ℕ) (e : Entry) (rest : List ℕ) → AllBytes bs → record_at bs ≡ Ok (e, rest) → bs ≡ frame e ++ rest
 is_frame [] e rest small q = let o = read_off [] (cut_of []) e rest refl q in absurd (omega (arith, (cut_off [] o.bytes rest o.cut).two))

@@ -1,11 +1,11 @@
--- The number and the layer of each refusal of bytes and of a record, and the fault at a place. Assumes nothing.
+-- The number and the layer of each refusal of bytes and of a record. Assumes nothing.
 use Rattle.std.specs.Prelude.{ℕ}
 use Rattle.month_format.specs.declared.errors.BytesError.{BytesError}
 use Rattle.month_format.specs.declared.errors.BytesError.TheVariants.{TooLong, BadVersion, CutShort}
 use Rattle.month_format.specs.declared.errors.RecordError.{RecordError}
 use Rattle.month_format.specs.declared.errors.RecordError.TheVariants.{Bytes, UnknownLetter, WrongLength, MisplacedSetUp, BadBandCount}
-use Rattle.month_format.specs.declared.fault.Fault.{Fault}
-use Rattle.month_format.specs.declared.fault.Place.{Place}
+use Rattle.month_format.specs.declared.place.Layer.{Layer}
+use Rattle.month_format.specs.declared.place.Layer.TheVariants as the_layer
 
 -- the number of each refusal of bytes
 abbrev pub bytes_number : BytesError → ℕ
@@ -21,18 +21,16 @@ record_number WrongLength = 44
 record_number MisplacedSetUp = 45
 record_number BadBandCount = 46
 
--- the layer that refuses: 1 the bytes, 2 the record
-abbrev pub record_layer : RecordError → ℕ
-record_layer (Bytes error) = 1
-record_layer UnknownLetter = 2
-record_layer WrongLength = 2
-record_layer MisplacedSetUp = 2
-record_layer BadBandCount = 2
+-- the layer that refuses: the bytes or the record
+abbrev pub record_layer : RecordError → Layer
+record_layer (Bytes error) = the_layer.Bytes
+record_layer UnknownLetter = the_layer.Record
+record_layer WrongLength = the_layer.Record
+record_layer MisplacedSetUp = the_layer.Record
+record_layer BadBandCount = the_layer.Record
 
--- a fault at a place, of no member and no day
-abbrev pub fault_at : ℕ → ℕ → Place → Fault
-fault_at layer number place = record { layer = layer; number = number; nth = place.nth; byte = place.byte; member = 0; day = 0 }
-
--- no place in the file: the file was refused before its first record
-abbrev pub nowhere : Place
-nowhere = record { nth = 0; byte = 0 }
+-- the number of each layer: 1 the bytes, 2 the record, 3 the book
+abbrev pub layer_number : Layer → ℕ
+layer_number the_layer.Bytes = 1
+layer_number the_layer.Record = 2
+layer_number the_layer.Book = 3

@@ -1,6 +1,7 @@
 -- What bytes say: the entry of a record, and the first record of some bytes. Assumes nothing.
 use Rattle.std.specs.Prelude.{ℕ, ◌+◌, ◌-◌, ◌*◌, cond, List, length, take, drop, Ok, Err, Result, ◌==◌, nat_lt, slice_index}
 use Rattle.agreement.specs.declared.calls.Call.{Call}
+use Rattle.agreement.specs.declared.calls.Posting.{Posting}
 use Rattle.agreement.specs.declared.calls.Call.TheVariants.{Enrol, Nominate, Read, Receive, Notify, Close}
 use Rattle.month_format.specs.declared.errors.BytesError.{BytesError}
 use Rattle.month_format.specs.declared.errors.BytesError.TheVariants.{CutShort}
@@ -23,8 +24,8 @@ abbrev pub enrol_of : List ℕ → Result Entry RecordError
 enrol_of fields = sized fields 5 (call (Enrol (quad_at fields 0) (slice_index fields 4)))
 
 -- account, day and therms
-abbrev pub posting_of : List ℕ → Result (ℕ × ℕ × ℕ) RecordError
-posting_of fields = sized fields 9 (quad_at fields 0, slice_index fields 4, quad_at fields 5)
+abbrev pub posting_of : List ℕ → Result Posting RecordError
+posting_of fields = sized fields 9 (record { account = quad_at fields 0; day = slice_index fields 4; therms = quad_at fields 5 })
 
 -- a day
 abbrev pub notify_of : List ℕ → Result Entry RecordError
@@ -34,10 +35,10 @@ notify_of fields = sized fields 1 (call (Notify (slice_index fields 0)))
 abbrev pub close_of : List ℕ → Result Entry RecordError
 close_of fields = sized fields 0 (call Close)
 
--- the posting of an account, a day and therms
-abbrev pub posted : Result (ℕ × ℕ × ℕ) RecordError → (ℕ → ℕ → ℕ → Call) → Result Entry RecordError
-posted (Ok p) posting = Ok (call (posting p.0 p.1 p.2))
-posted (Err e) posting = Err e
+-- the call that is made of a posting
+abbrev pub posted : Result Posting RecordError → (Posting → Call) → Result Entry RecordError
+posted (Ok posting) made = Ok (call (made posting))
+posted (Err e) made = Err e
 
 -- the letter decides how the fields divide
 abbrev pub lettered : ℕ → List ℕ → Result Entry RecordError

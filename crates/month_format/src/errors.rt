@@ -1,16 +1,19 @@
 // Why the bytes of a month file, or one of its records, are refused, and the number that each refusal goes by.
 ghost use Rattle.std.specs.Prelude.{◌≡◌};
 ghost use Rattle.month_format.specs.Numbers.{bytes_number, record_number, record_layer};
-ghost use Rattle.month_format.specs.declared.errors.RecordError.TheVariants.{Bytes};
+ghost use Rattle.month_format.specs.declared.errors.RecordError.TheVariants.{Bytes, WrongLength};
+
+use crate::place::Layer;
+use std::array::TryFromSliceError;
 
 #[derive(Clone, Copy, PartialEq, Eq, Debug)]
 pub enum BytesError {
     // The file is longer than a month file can be.
-    TooLong,
+    TooLong = 40,
     // The file is empty, or its version is another.
-    BadVersion,
+    BadVersion = 41,
     // The file ends within a record.
-    CutShort,
+    CutShort = 42,
 }
 
 #[derive(Clone, Copy, PartialEq, Eq, Debug)]
@@ -23,7 +26,7 @@ pub enum RecordError {
     WrongLength,
     // The set-up is missing at the start, or comes again.
     MisplacedSetUp,
-    // Neither six bands nor four.
+    // Neither six bands nor four: the record's refusal, since the book's, of the days, comes only after it.
     BadBandCount,
 }
 
@@ -31,25 +34,22 @@ impl BytesError {
     pub fn number(self) -> u8
         ensures { result ≡ bytes_number self }
     {
-        match self {
-            BytesError::TooLong => 40,
-            BytesError::BadVersion => 41,
-            BytesError::CutShort => 42,
-        }
+        self as u8
     }
 }
 
 impl RecordError {
-    // The layer that refuses: 1 the bytes, 2 the record.
-    pub fn layer(self) -> u8
+    // The layer that refuses: the bytes or the record.
+    pub fn layer(self) -> Layer
         ensures { result ≡ record_layer self }
     {
         match self {
-            RecordError::Bytes(_) => 1,
-            _ => 2,
+            RecordError::Bytes(_) => Layer::Bytes,
+            _ => Layer::Record,
         }
     }
 
+    // By cases, since a refusal with a field is no number.
     pub fn number(self) -> u8
         ensures { result ≡ record_number self }
     {
@@ -63,10 +63,20 @@ impl RecordError {
     }
 }
 
+// By hand, since a derive's `From` states nothing of the error that it makes.
 impl From<BytesError> for RecordError {
     ghost from_gives = { λ e r. r ≡ Bytes e };
 
     fn from(bytes: BytesError) -> RecordError {
         RecordError::Bytes(bytes)
+    }
+}
+
+// A field of four bytes has another length; by hand, as the one above.
+impl From<TryFromSliceError> for RecordError {
+    ghost from_gives = { λ _ r. r ≡ WrongLength };
+
+    fn from(_other: TryFromSliceError) -> RecordError {
+        RecordError::WrongLength
     }
 }

@@ -3,7 +3,7 @@ ghost use Rattle.std.specs.Prelude.{◌≡◌, ◌+◌, ◌<◌, ◌≤◌, leng
 ghost use Rattle.month_format.specs.Files.{most_bytes, versioned};
 ghost use Rattle.month_format.specs.Records.{cut_of, record_at};
 ghost use Rattle.month_format.specs.Readings.{Reads};
-ghost use Rattle.month_format.specs.Views.{cut_view, record_rest_view, rest_view};
+ghost use Rattle.month_format.specs.Views.{said_by, seen, with_rest, lent};
 
 use crate::errors::{BytesError, RecordError};
 use crate::record::Record;
@@ -16,43 +16,37 @@ pub const VERSION: u8 = 1;
 
 // What comes after the version of a file.
 pub fn after_version<'a>(file: &'a [u8]) -> Result<&'a [u8], BytesError>
-    ensures value { rest_view result ≡ versioned file.now }
+    ensures value { seen lent result ≡ versioned file.now }
     ensures shorter { IfOk result (λ rest. (length rest.now + 1 ≡ length file.now) × (length file.now ≤ most_bytes)) }
 {
     if file.len() > MOST_BYTES {
         return Err(BytesError::TooLong);
     }
-    let [version, rest @ ..] = file else {
-        return Err(BytesError::BadVersion);
-    };
-    if *version != VERSION {
-        return Err(BytesError::BadVersion);
+    match file {
+        [VERSION, rest @ ..] => Ok(rest),
+        _ => Err(BytesError::BadVersion),
     }
-    Ok(rest)
 }
 
 // The bytes of the first record, without its length, and what comes after it.
 fn cut<'a>(bytes: &'a [u8]) -> Result<(&'a [u8], &'a [u8]), BytesError>
-    ensures value { cut_view result ≡ cut_of bytes.now }
+    ensures value { seen (with_rest lent) result ≡ cut_of bytes.now }
     ensures shorter { IfOk result (λ p. length p.1.now < length bytes.now) }
 {
-    let [high, low, rest @ ..] = bytes else {
-        return Err(BytesError::CutShort);
-    };
-    let len = u16::from_be_bytes([*high, *low]) as usize;
-    if rest.len() < len {
-        return Err(BytesError::CutShort);
-    }
-    Ok(rest.split_at(len))
+    let (len, rest) = bytes.split_first_chunk::<2>().ok_or(BytesError::CutShort)?;
+    rest.split_at_checked(u16::from_be_bytes(*len).into())
+        .ok_or(BytesError::CutShort)
 }
 
-// The first record, taken apart, and what comes after it.
+// The first record, taken apart, and what comes after it. That less is left than there was is promised here and by what it
+// is made of, so that whoever reads on comes to an end.
+#[tactic(auto, using(crate::proofs::Framed::exactly_as))]
 pub fn next_record<'a>(bytes: &'a [u8]) -> Result<(Record<'a>, &'a [u8]), RecordError>
-    ensures value { record_rest_view result ≡ record_at bytes.now }
-    ensures exactly { Reads bytes.now (record_rest_view result) }
+    ensures value { seen (with_rest said_by) result ≡ record_at bytes.now }
+    ensures exactly { Reads bytes.now (seen (with_rest said_by) result) }
     ensures shorter { IfOk result (λ p. length p.1.now < length bytes.now) }
 {
     let (record, rest) = cut(bytes)?;
-    let record = Record::take_apart(record)?;
+    let record = Record::try_from(record)?;
     Ok((record, rest))
 }

@@ -3,11 +3,11 @@
 #![tactic(auto)]
 
 mod errors;
-mod fault;
 mod frames;
+mod place;
 mod record;
 
 pub use errors::{BytesError, RecordError};
-pub use fault::{Fault, Place};
 pub use frames::{MOST_BYTES, VERSION, after_version, next_record};
-pub use record::{Record, value};
+pub use place::{Layer, Place};
+pub use record::{Posting, Record, value};

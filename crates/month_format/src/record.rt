@@ -1,13 +1,21 @@
 // A record of a month file: a letter, and fields that stay where they lie in the file.
 ghost use Rattle.std.specs.Prelude.{◌≡◌};
 ghost use Rattle.month_format.specs.Fields.{quad_at};
-ghost use Rattle.month_format.specs.Records.{record_of, set_up_of, enrol_of, posting_of, posted, notify_of, close_of};
-ghost use Rattle.month_format.specs.Views.{said_by, record_view, posting_view, call_of};
+ghost use Rattle.month_format.specs.Records.{record_of, set_up_of, enrol_of, posting_of, notify_of, close_of};
+ghost use Rattle.month_format.specs.Views.{said_by, posting_said, seen, call_of};
 
 use crate::errors::RecordError;
 use agreement::Call;
 
-#[derive(Clone, Copy)]
+// The fields of a posting: an account, a day and therms.
+#[derive(Clone, Copy, PartialEq, Eq, Debug)]
+pub struct Posting<'a> {
+    pub account: &'a [u8; 4],
+    pub day: &'a u8,
+    pub therms: &'a [u8; 4],
+}
+
+#[derive(Clone, Copy, PartialEq, Eq, Debug)]
 pub enum Record<'a> {
     SetUp {
         days: &'a u8,
@@ -19,120 +27,59 @@ pub enum Record<'a> {
         account: &'a [u8; 4],
         retention: &'a u8,
     },
-    Nominate {
-        account: &'a [u8; 4],
-        day: &'a u8,
-        therms: &'a [u8; 4],
-    },
-    Read {
-        account: &'a [u8; 4],
-        day: &'a u8,
-        therms: &'a [u8; 4],
-    },
-    Receive {
-        account: &'a [u8; 4],
-        day: &'a u8,
-        therms: &'a [u8; 4],
-    },
+    // A nomination from a day on.
+    Nominate(Posting<'a>),
+    // What a member used on a day.
+    Read(Posting<'a>),
+    // What was received for a member on a day.
+    Receive(Posting<'a>),
     Notify {
         day: &'a u8,
     },
     Close,
 }
 
-// The number in a field of four bytes, the highest first.
+// The number in a field of four bytes, the highest first: a function, so that the order of the bytes stands once and not at each
+// of the five fields.
 pub fn value(field: &[u8; 4]) -> u32
     ensures { result ≡ quad_at field.now 0 }
 {
     u32::from_be_bytes(*field)
 }
 
-// Days, bands, average price and lowest price.
+// Days, bands, average price and lowest price. One pattern says the two single bytes and the rest, where `split_first`
+// would be asked twice.
 fn set_up<'a>(fields: &'a [u8]) -> Result<Record<'a>, RecordError>
-    ensures { record_view result ≡ set_up_of fields.now }
+    ensures { seen said_by result ≡ set_up_of fields.now }
 {
     let [days, bands, prices @ ..] = fields else {
         return Err(RecordError::WrongLength);
     };
-    let Some((average, rest)) = prices.split_first_chunk::<4>() else {
-        return Err(RecordError::WrongLength);
-    };
-    let Ok(lowest) = <&[u8; 4]>::try_from(rest) else {
-        return Err(RecordError::WrongLength);
-    };
+    let (average, lowest) = prices
+        .split_first_chunk::<4>()
+        .ok_or(RecordError::WrongLength)?;
     Ok(Record::SetUp {
         days,
         bands,
         average,
-        lowest,
+        lowest: lowest.try_into()?,
     })
 }
 
-// Account and retention.
+// Account and retention, which is the last byte.
 fn enrolment<'a>(fields: &'a [u8]) -> Result<Record<'a>, RecordError>
-    ensures { record_view result ≡ enrol_of fields.now }
+    ensures { seen said_by result ≡ enrol_of fields.now }
 {
-    let [account @ .., retention] = fields else {
-        return Err(RecordError::WrongLength);
-    };
-    let Ok(account) = <&[u8; 4]>::try_from(account) else {
-        return Err(RecordError::WrongLength);
-    };
-    Ok(Record::Enrol { account, retention })
-}
-
-// Account, day and therms.
-fn posting<'a>(fields: &'a [u8]) -> Result<(&'a [u8; 4], &'a u8, &'a [u8; 4]), RecordError>
-    ensures { posting_view result ≡ posting_of fields.now }
-{
-    let Some((account, [day, therms @ ..])) = fields.split_first_chunk::<4>() else {
-        return Err(RecordError::WrongLength);
-    };
-    let Ok(therms) = <&[u8; 4]>::try_from(therms) else {
-        return Err(RecordError::WrongLength);
-    };
-    Ok((account, day, therms))
-}
-
-// A nomination from a day on.
-fn nomination<'a>(fields: &'a [u8]) -> Result<Record<'a>, RecordError>
-    ensures { record_view result ≡ posted (posting_of fields.now) Call.Nominate }
-{
-    let (account, day, therms) = posting(fields)?;
-    Ok(Record::Nominate {
-        account,
-        day,
-        therms,
-    })
-}
-
-// What a member used on a day.
-fn read<'a>(fields: &'a [u8]) -> Result<Record<'a>, RecordError>
-    ensures { record_view result ≡ posted (posting_of fields.now) Call.Read }
-{
-    let (account, day, therms) = posting(fields)?;
-    Ok(Record::Read {
-        account,
-        day,
-        therms,
-    })
-}
-
-// What was received for a member on a day.
-fn receipt<'a>(fields: &'a [u8]) -> Result<Record<'a>, RecordError>
-    ensures { record_view result ≡ posted (posting_of fields.now) Call.Receive }
-{
-    let (account, day, therms) = posting(fields)?;
-    Ok(Record::Receive {
-        account,
-        day,
-        therms,
+    let (retention, account) = fields.split_last().ok_or(RecordError::WrongLength)?;
+    Ok(Record::Enrol {
+        account: account.try_into()?,
+        retention,
     })
 }
 
 // A day.
 fn notice<'a>(fields: &'a [u8]) -> Result<Record<'a>, RecordError>
-    ensures { record_view result ≡ notify_of fields.now }
+    ensures { seen said_by result ≡ notify_of fields.now }
 {
     match fields {
         [day] => Ok(Record::Notify { day }),
@@ -142,7 +89,7 @@ fn notice<'a>(fields: &'a [u8]) -> Result<Record<'a>, RecordError>
 
 // No field.
 fn closing<'a>(fields: &'a [u8]) -> Result<Record<'a>, RecordError>
-    ensures { record_view result ≡ close_of fields.now }
+    ensures { seen said_by result ≡ close_of fields.now }
 {
     match fields {
         [] => Ok(Record::Close),
@@ -150,26 +97,59 @@ fn closing<'a>(fields: &'a [u8]) -> Result<Record<'a>, RecordError>
     }
 }
 
-impl<'a> Record<'a> {
-    // Takes the bytes of a record apart: the letter decides how the rest divides.
-    pub fn take_apart(bytes: &'a [u8]) -> Result<Record<'a>, RecordError>
-        ensures { record_view result ≡ record_of bytes.now }
-    {
-        let [letter, fields @ ..] = bytes else {
-            return Err(RecordError::UnknownLetter);
-        };
+// The fields of a posting, taken apart.
+impl<'a> TryFrom<&'a [u8]> for Posting<'a> {
+    type Error = RecordError;
+
+    ghost try_from_gives = { λ fields answer. seen posting_said answer ≡ posting_of fields.now };
+
+    fn try_from(fields: &'a [u8]) -> Result<Posting<'a>, RecordError> {
+        let (account, rest) = fields
+            .split_first_chunk::<4>()
+            .ok_or(RecordError::WrongLength)?;
+        let (day, therms) = rest.split_first().ok_or(RecordError::WrongLength)?;
+        Ok(Posting {
+            account,
+            day,
+            therms: therms.try_into()?,
+        })
+    }
+}
+
+impl<'a> From<Posting<'a>> for agreement::Posting {
+    ghost from_gives = { λ fields posting. posting ≡ posting_said fields };
+
+    fn from(fields: Posting<'a>) -> agreement::Posting {
+        agreement::Posting {
+            account: value(fields.account),
+            day: *fields.day,
+            therms: value(fields.therms),
+        }
+    }
+}
+
+// The bytes of a record, taken apart: the letter decides how the rest divides.
+impl<'a> TryFrom<&'a [u8]> for Record<'a> {
+    type Error = RecordError;
+
+    ghost try_from_gives = { λ bytes answer. seen said_by answer ≡ record_of bytes.now };
+
+    fn try_from(bytes: &'a [u8]) -> Result<Record<'a>, RecordError> {
+        let (letter, fields) = bytes.split_first().ok_or(RecordError::UnknownLetter)?;
         match *letter as char {
             'S' => set_up(fields),
             'E' => enrolment(fields),
-            'N' => nomination(fields),
-            'R' => read(fields),
-            'G' => receipt(fields),
+            'N' => Posting::try_from(fields).map(Record::Nominate),
+            'R' => Posting::try_from(fields).map(Record::Read),
+            'G' => Posting::try_from(fields).map(Record::Receive),
             'W' => notice(fields),
             'C' => closing(fields),
             _ => Err(RecordError::UnknownLetter),
         }
     }
+}
 
+impl<'a> Record<'a> {
     // The call that the record makes; a set-up makes none.
     pub fn call(&self) -> Option<Call>
         ensures { result ≡ call_of (said_by self.now) }
@@ -180,33 +160,9 @@ impl<'a> Record<'a> {
                 account: value(account),
                 retention: **retention,
             }),
-            Record::Nominate {
-                account,
-                day,
-                therms,
-            } => Some(Call::Nominate {
-                account: value(account),
-                day: **day,
-                therms: value(therms),
-            }),
-            Record::Read {
-                account,
-                day,
-                therms,
-            } => Some(Call::Read {
-                account: value(account),
-                day: **day,
-                therms: value(therms),
-            }),
-            Record::Receive {
-                account,
-                day,
-                therms,
-            } => Some(Call::Receive {
-                account: value(account),
-                day: **day,
-                therms: value(therms),
-            }),
+            Record::Nominate(posting) => Some(Call::Nominate((*posting).into())),
+            Record::Read(posting) => Some(Call::Read((*posting).into())),
+            Record::Receive(posting) => Some(Call::Receive((*posting).into())),
             Record::Notify { day } => Some(Call::Notify { day: **day }),
             Record::Close => Some(Call::Close),
         }

@@ -4,7 +4,7 @@ use Rattle.agreement.specs.declared.bills.Bill.{Bill}
 use Rattle.agreement.specs.Book.{is_closed}
 use Rattle.agreement.specs.Sums.{sum_of}
 use Rattle.listing.specs.Listing.{closed_listing, open_line, fault_line}
-use Rattle.month_format.specs.declared.fault.Fault.{Fault}
+use Rattle.month_meaning.specs.declared.fault.Fault.{Fault}
 use Rattle.month_meaning.specs.Bills.{bills_of, Fair}
 use Rattle.month_meaning.specs.Months.{Month}
 use Rattle.month_meaning.specs.Reading.{reading}

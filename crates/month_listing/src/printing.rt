@@ -5,41 +5,40 @@ ghost use Rattle.month_file.specs.Views.{held_by};
 ghost use Rattle.month_meaning.specs.Bills.{Fair};
 ghost use Rattle.month_listing.specs.Printed.{FairlyListed, printed, printed_month};
 
-use listing::{write_closed, write_fault, write_open};
+use listing::{BLOCK, Listing};
 use month_file::{MonthBook, read_month};
 
 // Lists a book.
-fn list_book(book: &Option<MonthBook>, block: &mut [u8; 2048]) -> usize
+fn list_book(book: &Option<MonthBook>, block: &mut [u8; BLOCK]) -> usize
     ensures block { block.new ≡ written 0 (printed_month (held_by book.now)) block.old }
     ensures end { result ≡ length (printed_month (held_by book.now)) }
-    ensures fits { result ≤ 2048 }
     ensures fair { Fair (held_by book.now) }
 {
     let Some(book) = book else {
-        return write_open(block);
+        return Listing::Open.write(block);
     };
     let Ok(settlement) = book.settle() else {
-        return write_open(block);
+        return Listing::Open.write(block);
     };
-    write_closed(
-        block,
-        book.days(),
-        settlement.bills(),
-        settlement.total_cents(),
-    )
+    let listing = Listing::Closed {
+        days: book.days(),
+        bills: settlement.bills(),
+        total: settlement.total_cents(),
+    };
+    listing.write(block)
 }
 
-// Reads a month file, writes its listing at the start of the block and answers the length; the rest of the block keeps
-// its content.
-pub fn list_month(file: &[u8], block: &mut [u8; 2048]) -> usize
+// Reads a month file, writes its listing at the start of the block and answers the length, as `Listing::write` does, since the
+// block is the caller's and of fixed size; the rest of the block keeps its content.
+pub fn list_month(file: &[u8], block: &mut [u8; BLOCK]) -> usize
     ensures block { block.new ≡ written 0 (printed file.now) block.old }
     ensures end { result ≡ length (printed file.now) }
-    ensures fits { result ≤ 2048 }
+    ensures fits { result ≤ BLOCK }
     ensures fair { FairlyListed file.now }
 {
     let mut book = None;
     match read_month(&mut book, file) {
         Ok(()) => list_book(&book, block),
-        Err(fault) => write_fault(block, &fault),
+        Err(fault) => Listing::Fault(fault).write(block),
     }
 }

@@ -1,24 +1,24 @@
 -- A call that the book answers, and the month after it. Assumes nothing.
-use Rattle.std.proofs.Common.{◌≡◌, ℕ, Some, None, Err, Option, sym, refl, ap, ◌∙◌, arith}
+use Rattle.std.proofs.Common.{◌≡◌, Some, None, Err, Option, sym, refl, ap, ◌∙◌, arith}
 use Rattle.agreement.specs.declared.calls.Call.{Call}
 use Rattle.agreement.specs.declared.refusals.Refusal.{Refusal}
 use Rattle.agreement.specs.Book.{Book}
-use Rattle.agreement.specs.Refusals.{unless}
-use Rattle.agreement.specs.Calls.{accepted, refusal, after, answer, unless_refused}
+use Rattle.rules.specs.Checks.{unless, changed_unless}
+use Rattle.agreement.specs.Calls.{accepted, refusal, after, answer}
 use Rattle.month_format.specs.Entries.{Entry, set_up, call}
 use Rattle.month_format.specs.Views.{call_of}
 use Rattle.month_meaning.specs.declared.errors.FileError.TheVariants.{InBook}
 use Rattle.month_meaning.specs.Months.{Month, with_book}
 use Rattle.month_meaning.specs.Reading.{posted, answered}
-use Rattle.month_meaning.specs.Layers.{month_or, done}
+use Rattle.month_meaning.specs.Layers.{month_or}
 
 -- the entry of a call
 entry_of : (e : Entry) (c : Call) → call_of e ≡ Some c → e ≡ call c
-entry_of (set_up d n a l) c q = let z : ◌≡◌ {A = ℕ} 0 1 = cc in absurd (omega arith)
-entry_of (call d) c q = let same : d ≡ c = cc in ap call same
+entry_of (set_up d n a l) c q = absurd (grind arith)
+entry_of (call d) c q = grind arith
 
-unchanged : (why : Option Refusal) (r : Refusal) (b changed : Book) → Err r ≡ unless {X = Unit {0}} why tt → unless_refused why b changed ≡ b
-unchanged None r b changed q = let z : ◌≡◌ {A = ℕ} 0 1 = cc in absurd (omega arith)
+unchanged : (why : Option Refusal) (r : Refusal) (b changed : Book) → Err r ≡ unless {X = Unit {0}} why tt → changed_unless why b changed ≡ b
+unchanged None r b changed q = absurd (grind arith)
 unchanged (Some w) r b changed q = refl
 
 -- a book that refuses is as it was
@@ -36,6 +36,3 @@ module _ (m : Month) (e : Entry) (c : Call) (is : call_of e ≡ Some c) where
 
     pub month_refused : m ≡ month_or m (posted (Some m) e)
     month_refused = ap (month_or m) (sym posted_refused)
-
-    pub done_refused : Err (InBook r) ≡ done (posted (Some m) e)
-    done_refused = ap done (sym posted_refused)

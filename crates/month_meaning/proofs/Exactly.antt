@@ -1,23 +1,23 @@
 -- A file is accepted exactly when it is a month's file, and a fault says what stands before it. Assumes that the numbers
 -- of a file are bytes.
-use Rattle.std.proofs.Common.{◌≡◌, ℕ, suc, ◌≤◌, Bool, true, false, cond, eqb, ltb, ◌⊎◌, List, [], ◌∷◌, ◌++◌, length, get_or, take, drop, Some, None, Ok, Err, Option, Result, sym, refl, ap, ◌∙◌, subst, inl, inr, arith, ltb-false, le-ltb, eqb-true}
+use Rattle.std.proofs.Common.{◌≡◌, ℕ, suc, ◌+◌, ◌-◌, ◌≤◌, Bool, true, false, cond, eqb, ltb, ◌⊎◌, List, [], ◌∷◌, ◌++◌, length, get_or, take, drop, Some, None, Ok, Err, Option, Result, sym, refl, ap, ◌∙◌, subst, inl, inr, arith, ltb-false, le-ltb, eqb-true}
 use Rattle.std.specs.List.{flat_map}
 use Rattle.std.proofs.lemmas.List.{length-append, append-nil, take_at, drop_at, length-drop}
 use Rattle.month_format.specs.declared.errors.BytesError.{BytesError}
 use Rattle.month_format.specs.declared.errors.BytesError.TheVariants.{TooLong, BadVersion}
 use Rattle.month_format.specs.declared.errors.RecordError.TheVariants.{Bytes}
-use Rattle.month_format.specs.declared.fault.Fault.{Fault}
 use Rattle.month_format.specs.Entries.{Entry, frame, file_of}
 use Rattle.month_format.specs.Fields.{AllBytes}
 use Rattle.month_format.specs.Files.{most_bytes, versioned}
-use Rattle.month_format.specs.Numbers.{nowhere}
+use Rattle.month_format.proofs.Encodes.{err_ok}
 use Rattle.month_format.proofs.Framed.{bytes_drop}
 use Rattle.month_meaning.specs.declared.errors.FileError.TheVariants.{InRecord}
-use Rattle.month_meaning.specs.Faults.{fault}
+use Rattle.month_meaning.specs.declared.fault.Fault.{Fault}
+use Rattle.month_meaning.specs.Faults.{unplaced}
 use Rattle.month_meaning.specs.Months.{Month}
-use Rattle.month_meaning.specs.Reading.{Reading, read_on, begun, reading, kept}
+use Rattle.month_meaning.specs.Reading.{Reading, place_at, read_on, begun, reading, kept}
 use Rattle.month_meaning.specs.Accepted.{Accepted, Stopped, Nowhere, Reads}
-use Rattle.month_meaning.proofs.Posting.{Posts, err_ok, makes_of, posts_of, held, posts_last}
+use Rattle.month_meaning.proofs.Posting.{Posts, makes_of, posts_of, held, posts_last}
 use Rattle.month_meaning.proofs.Runs.{complete, Sofar, sound}
 
 -- ---- a month's file is read through
@@ -39,7 +39,7 @@ starts [] e = absurd (omega arith)
 starts (v ∷ t) e = ap (λ n. n ∷ t) e
 
 data Way (file : List ℕ) (x : Reading) : Type 0 where
-  unread : (e : BytesError) → x ≡ (None, Err (fault (InRecord (Bytes e)) nowhere)) → Way file x
+  unread : (e : BytesError) → x ≡ (None, Err (unplaced (InRecord (Bytes e)))) → Way file x
   ran : length file ≤ most_bytes → file ≡ 1 ∷ drop 1 file → Sofar None x 0 (length file) (drop 1 file) → Way file x
 
 way : (file : List ℕ) → AllBytes file → Way file (reading file)
@@ -67,25 +67,28 @@ module _ (file : List ℕ) where
       let es = s.entries in
       let g = file_of es in
       let whole : file ≡ g ++ s.rest = v ∙ ap (λ t. 1 ∷ t) s.layout in
-      let byte : length g ≡ f.byte = omega (arith, ap length whole, length-append g s.rest, s.outcome.1.0) in
-      let rest : drop f.byte file ≡ s.rest = ap (drop f.byte) whole ∙ drop_at g s.rest f.byte byte in
+      let place = place_at (0 + length es) (length file) s.rest in
+      let byte : length g ≡ length file - length s.rest = omega (arith, ap length whole, length-append g s.rest) in
+      let rest : drop place.byte file ≡ s.rest = ap (drop place.byte) whole ∙ drop_at g s.rest place.byte byte in
       record {
+        place = place;
+        reached = s.outcome.0;
         entries = es;
-        front = ap (take f.byte) whole ∙ take_at g s.rest f.byte byte;
-        count = omega (arith, s.outcome.0);
+        front = ap (take place.byte) whole ∙ take_at g s.rest place.byte byte;
+        count = omega arith;
         held = held es made before s.posts;
-        barred = λ e r m l k. s.outcome.1.1 e r m (sym rest ∙ l) (posts_last es None made e m s.posts (posts_of (es ++ e ∷ []) m k));
+        barred = λ e r m l k. s.outcome.1 e r m (sym rest ∙ l) (posts_last es None made e m s.posts (posts_of (es ++ e ∷ []) m k));
       }
 
   way_accepted : (x : Reading) → Way file x → x.1 ≡ Ok tt → (m : Month) × ((x.0 ≡ Some m) × Accepted file m)
-  way_accepted x (unread e p) q = absurd (err_ok (fault (InRecord (Bytes e)) nowhere) tt (ap (λ y. y.1) (sym p) ∙ q))
+  way_accepted x (unread e p) q = absurd (err_ok (unplaced (InRecord (Bytes e))) tt (ap (λ y. y.1) (sym p) ∙ q))
   way_accepted x (ran size v s) q = ran_accepted x.0 x.1 size v s q
 
   way_stopped : (x : Reading) → Way file x → (before : Option Month) (f : Fault) → x.1 ≡ Err f → Nowhere f before (kept x.0 before) ⊎ Stopped file before (kept x.0 before) f
   way_stopped x (unread e p) before f q =
-      let same : ◌≡◌ {A = Result (Unit {0}) Fault} (Err f) (Err (fault (InRecord (Bytes e)) nowhere)) = sym q ∙ ap (λ y. y.1) p in
-      let at : f ≡ fault (InRecord (Bytes e)) nowhere = cc in
-      inl (record { nth = ap (λ y. y.nth) at; byte = ap (λ y. y.byte) at; held = ap (λ y. kept y.0 before) p })
+      let same : ◌≡◌ {A = Result (Unit {0}) Fault} (Err f) (Err (unplaced (InRecord (Bytes e)))) = sym q ∙ ap (λ y. y.1) p in
+      let at : f ≡ unplaced (InRecord (Bytes e)) = cc in
+      inl (record { unreached = ap (λ y. y.place) at; held = ap (λ y. kept y.0 before) p })
   way_stopped x (ran size v s) before f q =
       inr (ran_stopped x.0 f before v (subst (λ r. Sofar None (x.0, r) 0 (length file) (drop 1 file)) q s))
 

@@ -1,20 +1,21 @@
 -- What reading the bytes that are left answers, as entries. Assumes that the numbers of a file are bytes.
-use Rattle.std.proofs.Common.{◌≡◌, ℕ, zero, suc, ◌+◌, ◌-◌, ◌≤◌, List, [], ◌∷◌, ◌++◌, length, get_or, Some, None, Ok, Err, Option, Result, sym, refl, ap, ◌∙◌, arith}
+use Rattle.std.proofs.Common.{◌≡◌, ℕ, zero, suc, ◌+◌, ◌≤◌, List, [], ◌∷◌, ◌++◌, length, get_or, Some, None, Ok, Err, Option, Result, sym, refl, ap, ◌∙◌, arith}
 use Rattle.std.specs.List.{flat_map}
 use Rattle.std.proofs.lemmas.List.{length-append, append_assoc, get_or-append-add}
 use Rattle.month_format.specs.declared.errors.RecordError.{RecordError}
 use Rattle.month_format.specs.declared.errors.RecordError.TheVariants.{MisplacedSetUp}
-use Rattle.month_format.specs.declared.fault.Fault.{Fault}
 use Rattle.month_format.specs.Entries.{Entry, frame}
 use Rattle.month_format.specs.Fields.{AllBytes}
 use Rattle.month_format.specs.Records.{record_at}
+use Rattle.month_format.proofs.Encodes.{err_ok}
 use Rattle.month_format.proofs.Framed.{reads, is_frame}
 use Rattle.month_meaning.specs.declared.errors.FileError.{FileError}
 use Rattle.month_meaning.specs.declared.errors.FileError.TheVariants.{InRecord}
+use Rattle.month_meaning.specs.declared.fault.Fault.{Fault}
 use Rattle.month_meaning.specs.Faults.{fault}
 use Rattle.month_meaning.specs.Months.{Month}
 use Rattle.month_meaning.specs.Reading.{Reading, posted, place_at, ended, went_on, stepped, read_on}
-use Rattle.month_meaning.proofs.Posting.{Posts, err_ok, ok_same}
+use Rattle.month_meaning.proofs.Posting.{Posts, ok_same}
 
 -- ---- the records of entries are read back
 pub complete : (es : List Entry) (k : ℕ) (made : Option Month) (nth total : ℕ) (m : Month) → Posts made es (Some m) → length (flat_map frame es) ≤ k → read_on k made nth total (flat_map frame es) ≡ (Some m, Ok tt)
@@ -35,7 +36,7 @@ Barred made bs = (e : Entry) (rest : List ℕ) (m : Month) → bs ≡ frame e ++
 
 abbrev pub Outcome : Option Month → Result (Unit {0}) Fault → ℕ → ℕ → List Entry → List ℕ → Type 0
 Outcome made (Ok u) nth total es rest = (rest ≡ []) × ((m : Month) × (made ≡ Some m))
-Outcome made (Err f) nth total es rest = (f.nth ≡ nth + suc (length es)) × ((f.byte ≡ total - length rest) × Barred made rest)
+Outcome made (Err f) nth total es rest = (f.place ≡ Some (place_at (nth + length es) total rest)) × Barred made rest
 
 pub record Sofar (made : Option Month) (x : Reading) (nth total : ℕ) (bs : List ℕ) : Type 0 where
   pub entries : List Entry
@@ -45,7 +46,7 @@ pub record Sofar (made : Option Month) (x : Reading) (nth total : ℕ) (bs : Lis
   pub outcome : Outcome x.0 x.1 nth total entries rest
 
 stops : (made : Option Month) (e : FileError) (nth total : ℕ) (bs : List ℕ) → Barred made bs → Sofar made (made, Err (fault e (place_at nth total bs))) nth total bs
-stops made e nth total bs barred = record { entries = []; rest = bs; layout = refl; posts = refl; outcome = (omega arith, (refl, barred)) }
+stops made e nth total bs barred = record { entries = []; rest = bs; layout = refl; posts = refl; outcome = (ap (λ n. Some (place_at n total bs)) (omega arith), barred) }
 
 nothing_left : (made : Option Month) → Barred made []
 nothing_left made e rest m l p = omega (arith, ap length l, length-append (frame e) rest)
@@ -56,7 +57,7 @@ ends (Some m) nth total = record { entries = []; rest = []; layout = refl; posts
 
 later : (made : Option Month) (r : Result (Unit {0}) Fault) (nth total : ℕ) (e : Entry) (es : List Entry) (rest : List ℕ) → Outcome made r (nth + 1) total es rest → Outcome made r nth total (e ∷ es) rest
 later made (Ok u) nth total e es rest o = o
-later made (Err f) nth total e es rest o = (omega (arith, o.0), o.1)
+later made (Err f) nth total e es rest o = (o.0 ∙ ap (λ n. Some (place_at n total rest)) (omega arith), o.1)
 
 more : (made : Option Month) (m : Month) (x : Reading) (nth total : ℕ) (bs : List ℕ) (e : Entry) (rest : List ℕ) → bs ≡ frame e ++ rest → posted made e ≡ Ok m → Sofar (Some m) x (nth + 1) total rest → Sofar made x nth total bs
 more made m x nth total bs e rest l p s =

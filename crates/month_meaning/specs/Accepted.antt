@@ -4,9 +4,10 @@ use Rattle.agreement.specs.declared.calls.Call.{Call}
 use Rattle.agreement.specs.Book.{Book, opened}
 use Rattle.agreement.specs.Calls.{after, answer}
 use Rattle.agreement.specs.Runs.{run}
-use Rattle.month_format.specs.declared.fault.Fault.{Fault}
+use Rattle.month_format.specs.declared.place.Place.{Place}
 use Rattle.month_format.specs.Entries.{Entry, set_up, call, frame, file_of}
 use Rattle.month_format.specs.Files.{most_bytes}
+use Rattle.month_meaning.specs.declared.fault.Fault.{Fault}
 use Rattle.month_meaning.specs.Months.{Month, with_book, opening, set_up_refusal}
 
 -- the book accepts each call in its turn
@@ -41,16 +42,17 @@ Held (entry ∷ entries) before later = (month : Month) × ((later ≡ Some mont
 -- a fault at a record: the records before it are the file up to its byte, they are held, and none that begins at its
 -- byte could follow them
 pub record Stopped (file : List ℕ) (before later : Option Month) (fault : Fault) : Type 0 where
+  pub place : Place
+  pub reached : fault.place ≡ Some place
   pub entries : List Entry
-  pub front : take fault.byte file ≡ file_of entries
-  pub count : fault.nth ≡ suc (length entries)
+  pub front : take place.byte file ≡ file_of entries
+  pub count : place.nth ≡ suc (length entries)
   pub held : Held entries before later
-  pub barred : (entry : Entry) (rest : List ℕ) (month : Month) → drop fault.byte file ≡ frame entry ++ rest → Makes (entries ++ entry ∷ []) month → ⊥
+  pub barred : (entry : Entry) (rest : List ℕ) (month : Month) → drop place.byte file ≡ frame entry ++ rest → Makes (entries ++ entry ∷ []) month → ⊥
 
 -- a fault before the first record
 pub record Nowhere (fault : Fault) (before later : Option Month) : Type 0 where
-  pub nth : fault.nth ≡ 0
-  pub byte : fault.byte ≡ 0
+  pub unreached : fault.place ≡ None
   pub held : later ≡ before
 
 -- what a file does to the caller's month, and what is answered: accepted exactly when it is a month's file

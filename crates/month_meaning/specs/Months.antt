@@ -1,11 +1,10 @@
 -- A month as a file makes it: the ladder of its set-up, and the plain book. Assumes nothing.
-use Rattle.std.specs.Prelude.{ℕ, Bool, not, ◌||◌, [], ◌∷◌, Some, None, Ok, Err, Option, Result, ◌==◌}
-use Rattle.schedule.specs.Checks.{◌when◌, first}
+use Rattle.std.specs.Prelude.{ℕ, Bool, not, ◌||◌, [], ◌∷◌, Option, ◌==◌}
+use Rattle.std.specs.Option.{option_map}
+use Rattle.rules.specs.Checks.{◌when◌, first, refusal_of}
 use Rattle.tariff.specs.declared.ladder.Bands.{Bands}
-use Rattle.tariff.specs.declared.refusal.Refusal as the_ladder
 use Rattle.tariff.specs.Refusals.{ladder_refusal}
 use Rattle.tariff.specs.Tables.{bands_of}
-use Rattle.agreement.specs.declared.refusals.Refusal.{Refusal}
 use Rattle.agreement.specs.Book.{Book, opened}
 use Rattle.agreement.specs.Months.{checked}
 use Rattle.month_format.specs.declared.errors.RecordError.TheVariants.{BadBandCount}
@@ -31,17 +30,7 @@ opening days bands average lowest = record { bands = bands_of bands; average = a
 abbrev pub is_band_count : ℕ → Bool
 is_band_count bands = bands == 6 || bands == 4
 
--- why a number of days is refused, if it is
-abbrev pub days_refusal : Result ℕ Refusal → Option FileError
-days_refusal (Ok days) = None
-days_refusal (Err refusal) = Some (InBook refusal)
-
--- why a ladder is refused, if it is
-abbrev pub in_ladder : Option the_ladder.Refusal → Option FileError
-in_ladder None = None
-in_ladder (Some refusal) = Some (InLadder refusal)
-
 -- why a set-up is refused, if it is: the number of bands, then the days, then the prices
 abbrev pub set_up_refusal : ℕ → ℕ → ℕ → ℕ → Option FileError
 set_up_refusal days bands average lowest =
-    first (InRecord BadBandCount when not (is_band_count bands) ∷ days_refusal (checked days) ∷ in_ladder (ladder_refusal bands average lowest) ∷ [])
+    first (InRecord BadBandCount when not (is_band_count bands) ∷ option_map InBook (refusal_of (checked days)) ∷ option_map InLadder (ladder_refusal bands average lowest) ∷ [])

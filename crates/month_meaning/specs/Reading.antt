@@ -1,25 +1,20 @@
 -- What the bytes of a month file mean: the month that they make, and the first fault. Assumes nothing.
 use Rattle.std.specs.Prelude.{ℕ, zero, suc, ◌+◌, ◌-◌, List, [], ◌∷◌, length, Some, None, Ok, Err, Option, Result}
+use Rattle.rules.specs.Checks.{unless}
 use Rattle.agreement.specs.declared.refusals.Refusal.{Refusal}
 use Rattle.agreement.specs.Calls.{after, answer}
 use Rattle.month_format.specs.declared.errors.BytesError.{BytesError}
 use Rattle.month_format.specs.declared.errors.RecordError.{RecordError}
 use Rattle.month_format.specs.declared.errors.RecordError.TheVariants.{Bytes, MisplacedSetUp}
-use Rattle.month_format.specs.declared.fault.Fault.{Fault}
-use Rattle.month_format.specs.declared.fault.Place.{Place}
+use Rattle.month_format.specs.declared.place.Place.{Place}
 use Rattle.month_format.specs.Entries.{Entry, set_up, call}
 use Rattle.month_format.specs.Files.{versioned}
-use Rattle.month_format.specs.Numbers.{nowhere}
 use Rattle.month_format.specs.Records.{record_at}
 use Rattle.month_meaning.specs.declared.errors.FileError.{FileError}
 use Rattle.month_meaning.specs.declared.errors.FileError.TheVariants.{InRecord, InBook}
-use Rattle.month_meaning.specs.Faults.{fault}
+use Rattle.month_meaning.specs.declared.fault.Fault.{Fault}
+use Rattle.month_meaning.specs.Faults.{fault, unplaced}
 use Rattle.month_meaning.specs.Months.{Month, with_book, opening, set_up_refusal}
-
--- a month, unless there is an error
-abbrev pub unless_refused : Option FileError → Month → Result Month FileError
-unless_refused None month = Ok month
-unless_refused (Some error) month = Err error
 
 -- a month after a call that the book answered
 abbrev pub answered : Result (Unit {0}) Refusal → Month → Result Month FileError
@@ -28,7 +23,7 @@ answered (Err refusal) month = Err (InBook refusal)
 
 -- the month after one entry more: a set-up comes first, and only once
 abbrev pub posted : Option Month → Entry → Result Month FileError
-posted None (set_up days bands average lowest) = unless_refused (set_up_refusal days bands average lowest) (opening days bands average lowest)
+posted None (set_up days bands average lowest) = unless (set_up_refusal days bands average lowest) (opening days bands average lowest)
 posted None (call made) = Err (InRecord MisplacedSetUp)
 posted (Some month) (set_up days bands average lowest) = Err (InRecord MisplacedSetUp)
 posted (Some month) (call made) = answered (answer made month.book) (with_book (after made month.book) month)
@@ -65,7 +60,7 @@ read_on (suc turns) made before total (b ∷ left) = stepped made (place_at befo
 -- what comes after the version is read, or the file is refused before its first record
 abbrev pub begun : Result (List ℕ) BytesError → (List ℕ → Reading) → Reading
 begun (Ok left) go = go left
-begun (Err error) go = (None, Err (fault (InRecord (Bytes error)) nowhere))
+begun (Err error) go = (None, Err (unplaced (InRecord (Bytes error))))
 
 -- what is read of a whole file
 abbrev pub reading : List ℕ → Reading

@@ -1,13 +1,22 @@
-// Why reading a month file stops, and the fault that is told.
+// Why reading a month file stops.
 ghost use Rattle.std.specs.Prelude.{◌≡◌};
+ghost use Rattle.month_format.specs.declared.errors.RecordError.TheVariants.{Bytes};
 ghost use Rattle.month_meaning.specs.declared.errors.FileError.TheVariants.{InRecord, InLadder, InBook};
-ghost use Rattle.month_meaning.specs.Faults.{layer_of, number_in, missing, fault};
+ghost use Rattle.month_meaning.specs.Errors.{layer_of, number_in, missing};
 
 use agreement::Refusal;
-use month_format::{Fault, Place, RecordError};
+use month_format::{BytesError, Layer, RecordError};
 use tariff::Refusal as LadderRefusal;
 
-#[derive(Clone, Copy)]
+// A read that is missing at the close: the member's place in enrolment order, from 1, and the day. These are the two fields of the
+// book's refusal, read off it where a fault is told: a struct within the refusal would be a name more wherever it is made or met.
+#[derive(Clone, Copy, PartialEq, Eq, Debug)]
+pub struct MissingRead {
+    pub member: u8,
+    pub day: u8,
+}
+
+#[derive(Clone, Copy, PartialEq, Eq, Debug)]
 pub enum FileError {
     // The bytes hold no whole record, or the record is none of the format's, or out of place.
     InRecord(RecordError),
@@ -18,18 +27,18 @@ pub enum FileError {
 }
 
 impl FileError {
-    // The layer that refuses: 1 the bytes, 2 the record, 3 the book.
-    pub fn layer(self) -> u8
+    // The layer that refuses: the bytes, the record or the book.
+    pub fn layer(self) -> Layer
         ensures { result ≡ layer_of self }
     {
         match self {
             FileError::InRecord(error) => error.layer(),
-            FileError::InLadder(LadderRefusal::BadBandCount) => 2,
-            FileError::InLadder(_) => 3,
-            FileError::InBook(_) => 3,
+            FileError::InLadder(LadderRefusal::BadBandCount) => Layer::Record,
+            FileError::InLadder(_) | FileError::InBook(_) => Layer::Book,
         }
     }
 
+    // By cases, since each of the three has numbers of its own.
     pub fn number(self) -> u8
         ensures { result ≡ number_in self }
     {
@@ -40,29 +49,25 @@ impl FileError {
         }
     }
 
-    // The member and the day of a missing read, else 0 and 0.
-    pub fn missing_read(self) -> (u8, u8)
+    // The read that is missing, where that is why.
+    pub fn missing_read(self) -> Option<MissingRead>
         ensures { result ≡ missing self }
     {
         match self {
-            FileError::InBook(Refusal::ReadMissing { member, day }) => (member, day),
-            _ => (0, 0),
+            FileError::InBook(Refusal::ReadMissing { member, day }) => {
+                Some(MissingRead { member, day })
+            }
+            _ => None,
         }
     }
+}
 
-    // The fault where reading stops at a place.
-    pub fn at(self, place: Place) -> Fault
-        ensures { result ≡ fault self place }
-    {
-        let (member, day) = self.missing_read();
-        Fault {
-            layer: self.layer(),
-            number: self.number(),
-            nth: place.nth,
-            byte: place.byte,
-            member,
-            day,
-        }
+// One impl for each error, since a derive's `From` states nothing of the error that it makes.
+impl From<BytesError> for FileError {
+    ghost from_gives = { λ e r. r ≡ InRecord (Bytes e) };
+
+    fn from(why: BytesError) -> FileError {
+        FileError::InRecord(why.into())
     }
 }
 

@@ -3,7 +3,7 @@
 #![tactic(auto)]
 
 mod errors;
-mod set_up;
+mod fault;
 
-pub use errors::FileError;
-pub use set_up::SetUp;
+pub use errors::{FileError, MissingRead};
+pub use fault::Fault;

@@ -1,71 +1,62 @@
 // Whole months, closed and settled: over the product's schedules, and over schedules of the tests' own making.
 #![tactic(auto)]
 
-ghost use Rattle.std.specs.Prelude.{[], ◌∷◌, pos, negsuc, refl};
-ghost use Rattle.schedule.specs.Lines.{line};
+ghost use Rattle.std.specs.Prelude.{◌≡◌, true, ◌&&◌, [], ◌∷◌};
+ghost use Rattle.std.proofs.Common.{ap};
+ghost use Rattle.schedule.specs.Lines.{within_limits};
 
 #[cfg(test)]
 mod tests {
-    use agreement::{Call, Days, Refusal};
+    use agreement::{Call, Days, Posting, Refusal};
     use pool::{Outcome, PoolBook};
-    use schedule::{Line, Schedule, first_greatest};
+    use schedule::{Gas, Line, Schedule, first_greatest};
     use std::process::Abort;
     use std::test::Fail;
     use tariff::{Ladder, Overrun, Tolerance};
 
-    // Charges nothing.
+    // A schedule of one line.
     #[derive(Clone, Copy)]
-    struct Free;
+    struct OneLine {
+        line: Line,
+        ghost within: { within_limits line ≡ true },
+    }
 
-    impl Schedule for Free {
-        ghost lines = { λ _. line (pos 0) (pos 0) ∷ [] };
+    impl Schedule for OneLine {
+        ghost lines = { λ s. s.line ∷ [] };
 
-        ghost lawful = { λ _. refl };
+        ghost lawful = { λ s. ap (λ b. b && true) s.within };
 
-        fn line_at(&self, difference: i64, base: u64) -> Line {
-            first_greatest(&[Line { a: 0, b: 0 }], difference, base)
+        fn line_at(&self, gas: Gas) -> Line {
+            first_greatest(&[self.line], gas)
         }
     }
+
+    // Charges nothing.
+    const FREE: OneLine = OneLine {
+        line: Line::GIVES_NOTHING,
+    };
 
     // Charges 16 grains a thousandth of a therm of the base.
-    #[derive(Clone, Copy)]
-    struct OnBase;
-
-    impl Schedule for OnBase {
-        ghost lines = { λ _. line (pos 0) (pos 16) ∷ [] };
-
-        ghost lawful = { λ _. refl };
-
-        fn line_at(&self, difference: i64, base: u64) -> Line {
-            first_greatest(&[Line { a: 0, b: 16 }], difference, base)
-        }
-    }
+    const ON_BASE: OneLine = OneLine {
+        line: Line { a: 0, b: 16 },
+    };
 
     // Charges half a cent on 1,000 therms of the base.
-    #[derive(Clone, Copy)]
-    struct HalfACent;
-
-    impl Schedule for HalfACent {
-        ghost lines = { λ _. line (pos 0) (pos 20) ∷ [] };
-
-        ghost lawful = { λ _. refl };
-
-        fn line_at(&self, difference: i64, base: u64) -> Line {
-            first_greatest(&[Line { a: 0, b: 20 }], difference, base)
-        }
-    }
+    const HALF_A_CENT: OneLine = OneLine {
+        line: Line { a: 0, b: 20 },
+    };
 
     // Credits half a cent on 1,000 therms of the base.
-    #[derive(Clone, Copy)]
-    struct HalfACentBack;
+    const HALF_A_CENT_BACK: OneLine = OneLine {
+        line: Line { a: 0, b: -20 },
+    };
 
-    impl Schedule for HalfACentBack {
-        ghost lines = { λ _. line (pos 0) (negsuc 19) ∷ [] };
-
-        ghost lawful = { λ _. refl };
-
-        fn line_at(&self, difference: i64, base: u64) -> Line {
-            first_greatest(&[Line { a: 0, b: -20 }], difference, base)
+    // Gas that is posted for a member and a day.
+    fn posting(account: u32, day: u8, therms: u32) -> Posting {
+        Posting {
+            account,
+            day,
+            therms,
         }
     }
 
@@ -76,18 +67,18 @@ mod tests {
         therms: u32,
     ) -> Result<(), Refusal> {
         book.enrol(account, 0)?;
-        book.nominate(account, 1, therms)?;
-        book.nominate(account, 2, 0)?;
-        book.read(account, 1, therms)?;
+        book.nominate(posting(account, 1, therms))?;
+        book.nominate(posting(account, 2, 0))?;
+        book.read(posting(account, 1, therms))?;
         for day in 2..29u8 {
-            book.read(account, day, 0)?;
+            book.read(posting(account, day, 0))?;
         }
         Ok(())
     }
 
     #[test]
     fn two_members_share_a_cash_out(rt: HostRuntime) -> Result<(), Fail> {
-        let Ok(days) = Days::check(28) else {
+        let Ok(days) = Days::try_from(28) else {
             return Err(Fail::new("days"));
         };
         let Ok(ladder) = Ladder::new(6, 5_000, 4_000) else {
@@ -97,16 +88,8 @@ mod tests {
         assert_eq!(rt; enrol_and_read(&mut book, 101, 1_000), Ok(()));
         assert_eq!(rt; enrol_and_read(&mut book, 102, 1_000), Ok(()));
         let calls = [
-            Call::Receive {
-                account: 101,
-                day: 1,
-                therms: 900,
-            },
-            Call::Receive {
-                account: 102,
-                day: 1,
-                therms: 1_020,
-            },
+            Call::Receive(posting(101, 1, 900)),
+            Call::Receive(posting(102, 1, 1_020)),
             Call::Close,
         ];
         let Outcome {
@@ -130,7 +113,7 @@ mod tests {
 
     // The cents of two members that nominate and use 1,000 therms on day 1, and receive so much, and their total.
     fn cents_of_two(rt: &impl Abort, first: u32, second: u32) -> Result<[i64; 3], Fail> {
-        let Ok(days) = Days::check(28) else {
+        let Ok(days) = Days::try_from(28) else {
             return Err(Fail::new("days"));
         };
         let Ok(ladder) = Ladder::new(6, 5_000, 4_000) else {
@@ -139,8 +122,8 @@ mod tests {
         let mut book = PoolBook::new(days, ladder, Tolerance, Overrun);
         assert_eq!(rt; enrol_and_read(&mut book, 101, 1_000), Ok(()));
         assert_eq!(rt; enrol_and_read(&mut book, 102, 1_000), Ok(()));
-        assert_eq!(rt; book.receive(101, 1, first), Ok(()));
-        assert_eq!(rt; book.receive(102, 1, second), Ok(()));
+        assert_eq!(rt; book.receive(posting(101, 1, first)), Ok(()));
+        assert_eq!(rt; book.receive(posting(102, 1, second)), Ok(()));
         assert_eq!(rt; book.close(), Ok(()));
         let Ok(settlement) = book.settle() else {
             return Err(Fail::new("not closed"));
@@ -161,7 +144,7 @@ mod tests {
     // Forty members that use 50,000 therms on each of thirty-one notified days, and nominate and receive nothing.
     #[test]
     fn a_full_pool_at_the_limits(rt: HostRuntime) -> Result<(), Fail> {
-        let Ok(days) = Days::check(31) else {
+        let Ok(days) = Days::try_from(31) else {
             return Err(Fail::new("days"));
         };
         let Ok(ladder) = Ladder::new(6, 30_000, 30_000) else {
@@ -171,7 +154,7 @@ mod tests {
         for account in 1..41u32 {
             assert_eq!(rt; book.enrol(account, 50), Ok(()));
             for day in 1..32u8 {
-                assert_eq!(rt; book.read(account, day, 50_000), Ok(()));
+                assert_eq!(rt; book.read(posting(account, day, 50_000)), Ok(()));
             }
         }
         for day in 1..32u8 {
@@ -193,10 +176,10 @@ mod tests {
 
     #[test]
     fn small_shares_are_rounded_by_running_totals(rt: HostRuntime) -> Result<(), Fail> {
-        let Ok(days) = Days::check(28) else {
+        let Ok(days) = Days::try_from(28) else {
             return Err(Fail::new("days"));
         };
-        let mut book = PoolBook::new(days, OnBase, Free, Free);
+        let mut book = PoolBook::new(days, ON_BASE, FREE, FREE);
         for account in 1..4u32 {
             assert_eq!(rt; enrol_and_read(&mut book, account, 1_000), Ok(()));
         }
@@ -215,14 +198,11 @@ mod tests {
     }
 
     // The cents of one member that is delivered 1,000 therms.
-    fn cents_of_one<M: Schedule>(rt: &impl Abort, month: M) -> Result<i64, Fail>
-    where
-        M: Drop,
-    {
-        let Ok(days) = Days::check(28) else {
+    fn cents_of_one(rt: &impl Abort, month: OneLine) -> Result<i64, Fail> {
+        let Ok(days) = Days::try_from(28) else {
             return Err(Fail::new("days"));
         };
-        let mut book = PoolBook::new(days, month, Free, Free);
+        let mut book = PoolBook::new(days, month, FREE, FREE);
         assert_eq!(rt; enrol_and_read(&mut book, 1, 1_000), Ok(()));
         assert_eq!(rt; book.close(), Ok(()));
         match book.shares(1) {
@@ -233,22 +213,22 @@ mod tests {
 
     #[test]
     fn halves_of_a_cent_are_rounded_up(rt: HostRuntime) -> Result<(), Fail> {
-        assert_eq!(rt; cents_of_one(&rt, HalfACent)?, 1);
-        assert_eq!(rt; cents_of_one(&rt, HalfACentBack)?, 0);
+        assert_eq!(rt; cents_of_one(&rt, HALF_A_CENT)?, 1);
+        assert_eq!(rt; cents_of_one(&rt, HALF_A_CENT_BACK)?, 0);
         Ok(())
     }
 
     #[test]
     fn shares_are_asked_for_once_the_month_is_closed(rt: HostRuntime) -> Result<(), Fail> {
-        let Ok(days) = Days::check(28) else {
+        let Ok(days) = Days::try_from(28) else {
             return Err(Fail::new("days"));
         };
-        let mut book = PoolBook::new(days, Free, Tolerance, Overrun);
+        let mut book = PoolBook::new(days, FREE, Tolerance, Overrun);
         assert_eq!(rt; book.enrol(7, 0), Ok(()));
-        assert_eq!(rt; book.nominate(7, 1, 1_000), Ok(()));
-        assert_eq!(rt; book.read(7, 1, 1_101), Ok(()));
+        assert_eq!(rt; book.nominate(posting(7, 1, 1_000)), Ok(()));
+        assert_eq!(rt; book.read(posting(7, 1, 1_101)), Ok(()));
         for day in 2..29u8 {
-            assert_eq!(rt; book.read(7, day, 1_000), Ok(()));
+            assert_eq!(rt; book.read(posting(7, day, 1_000)), Ok(()));
         }
         assert_eq!(rt; book.notify(1), Ok(()));
         assert!(rt; book.shares(7).is_err());

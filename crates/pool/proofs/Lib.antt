@@ -1,12 +1,13 @@
 mod Lists
-mod Enrolled
-mod Posted
-mod Kept
-mod Summed
 mod Missing
-mod Filling
-mod Words
-pub mod Small
-mod Turns
+mod Places
+mod Summed
 mod Questioned
+mod Words
+mod Summing
+mod Turns
 mod Settling
+mod Posted
+mod Writing
+mod Enrolling
+pub mod Small

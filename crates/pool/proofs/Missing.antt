@@ -1,53 +1,41 @@
--- The first missing read of a table, found a day and a member at a time. Assumes nothing.
-use Rattle.std.proofs.Common.{◌≡◌, ℕ, ◌+◌, ◌<◌, ◌≤◌, Bool, true, false, ◌∷◌, get_or, drop, Some, None, Option, sym, ap, ◌∙◌, arith}
-use Rattle.std.proofs.lemmas.List.FromFn.{length-map-range_with_len}
+-- The first unread day of a member, and the first missing read, by their places. Assumes nothing.
+use Rattle.std.proofs.Common.{◌≡◌, ℕ, ◌+◌, ◌<◌, ◌≤◌, true, false, cond, List, [], ◌∷◌, length, get_or, drop, Some, None, Option, position, refl, sym, ap, ◌∙◌}
+use Rattle.std.specs.List.{position_from}
 use Rattle.std.proofs.lemmas.List.{at_drop_more, at_drop_all}
-use Rattle.agreement.specs.declared.readings.Reading.TheVariants.{Unread}
+use Rattle.std.proofs.lemmas.Iterator.Adapters.{position_from-zero}
+use Rattle.agreement.specs.declared.day.Day.{Day}
 use Rattle.agreement.specs.declared.refusals.Refusal.TheVariants.{ReadMissing}
-use Rattle.agreement.specs.Book.{Day, Member, blank, is_unread}
-use Rattle.agreement.specs.Missing.{unread_from, first_unread, missing_or, missing_from}
-use Rattle.pool.specs.declared.table.Table.{Table}
-use Rattle.pool.specs.Contents.{contents, cell_at, day_in, days_at, member_at, plain}
-use Rattle.pool.proofs.Lists.{get_or-tabulated}
-use Rattle.pool.proofs.Enrolled.{nobody, members_count, member_at_lem}
+use Rattle.agreement.specs.Book.{Member, is_unread}
+use Rattle.agreement.specs.Missing.{first_unread, missing_from, missing_or, unread_from}
+use Rattle.pool.specs.Members.{nobody}
 
--- the day at a place, from 0
-module _ (t : Table) (place d : ℕ) (lt : d < t.days.count) where
-  at_day : unread_from (d + 1) (drop d (days_at (contents t) place)) ≡ unread_from (d + 1) (day_in (contents t) (cell_at place d) ∷ drop (d + 1) (days_at (contents t) place))
-  at_day =
-      let n = length-map-range_with_len (λ k. day_in (contents t) (cell_at place k)) 0 t.days.count in
-      at_drop_more (unread_from (d + 1)) (days_at (contents t) place) d blank (omega arith)
-      ∙ ap (λ (day : Day). unread_from (d + 1) (day ∷ drop (d + 1) (days_at (contents t) place))) (get_or-tabulated (λ k. day_in (contents t) (cell_at place k)) t.days.count d blank lt)
+-- a place counted from 1
+abbrev pub from_one : Option ℕ → Option ℕ
+from_one None = None
+from_one (Some n) = Some (n + 1)
 
-  -- the first unread, by whether this day is
-  abbrev where_unread : Bool → Option ℕ
-  where_unread true = Some (d + 1)
-  where_unread false = unread_from (d + 1 + 1) (drop (d + 1) (days_at (contents t) place))
+unread_counted : (n : ℕ) (days : List Day) → unread_from (n + 1) days ≡ from_one (position_from (λ (day : Day). is_unread day.reading) n days)
+unread_counted n [] = refl
+unread_counted n (d ∷ ds) =
+    elim (is_unread d.reading) as (λ b. elim b as (λ _. Option ℕ) [ true ↦ Some (n + 1) | false ↦ unread_from (n + 1 + 1) ds ] ≡ from_one (cond b (Some n) (position_from (λ (day : Day). is_unread day.reading) (n + 1) ds)))
+    [ true ↦ refl | false ↦ unread_counted (n + 1) ds ]
 
-  pub is_unread_lem : is_unread (get_or t.readings (cell_at place d) Unread) ≡ true → unread_from (d + 1) (drop d (days_at (contents t) place)) ≡ Some (d + 1)
-  is_unread_lem e = at_day ∙ ap where_unread e
+pub unread_is : (days : List Day) → unread_from 1 days ≡ from_one (position (λ (day : Day). is_unread day.reading) days)
+unread_is days = unread_counted 0 days ∙ ap from_one (sym (position_from-zero (λ (day : Day). is_unread day.reading) days))
 
-  pub is_read : is_unread (get_or t.readings (cell_at place d) Unread) ≡ false → unread_from (d + 1) (drop d (days_at (contents t) place)) ≡ unread_from (d + 1 + 1) (drop (d + 1) (days_at (contents t) place))
-  is_read e = at_day ∙ ap where_unread e
+-- the missing reads of the members from a place on
+module _ (ms : List Member) (i : ℕ) (m : Member) (lt : i < length ms) (here : m ≡ get_or ms i nobody) where
+  from_here : (o : Option ℕ) → o ≡ first_unread m → missing_from (i + 1) (drop i ms) ≡ missing_or (i + 1) o (missing_from (i + 1 + 1) (drop (i + 1) ms))
+  from_here o e =
+      at_drop_more (missing_from (i + 1)) ms i nobody lt
+      ∙ ap (λ (x : Member). missing_or (i + 1) (first_unread x) (missing_from (i + 1 + 1) (drop (i + 1) ms))) (sym here)
+      ∙ ap (λ (x : Option ℕ). missing_or (i + 1) x (missing_from (i + 1 + 1) (drop (i + 1) ms))) (sym e)
 
-pub all_read : (t : Table) (place d : ℕ) → t.days.count ≤ d → unread_from (d + 1) (drop d (days_at (contents t) place)) ≡ None
-all_read t place d le =
-    let n = length-map-range_with_len (λ k. day_in (contents t) (cell_at place k)) 0 t.days.count in
-    at_drop_all (unread_from (d + 1)) (days_at (contents t) place) d (omega arith)
+  pub is_missing : (day : ℕ) → Some day ≡ first_unread m → missing_from (i + 1) (drop i ms) ≡ Some (ReadMissing (i + 1) day)
+  is_missing day e = from_here (Some day) e
 
--- the member at a place, from 0
-module _ (t : Table) (i : ℕ) (lt : i < t.count) where
-  at_member : missing_from (i + 1) (drop i (plain t).members) ≡ missing_from (i + 1) (member_at (contents t) i ∷ drop (i + 1) (plain t).members)
-  at_member =
-      let n = members_count t in
-      at_drop_more (missing_from (i + 1)) (plain t).members i nobody (omega arith)
-      ∙ ap (λ (m : Member). missing_from (i + 1) (m ∷ drop (i + 1) (plain t).members)) (member_at_lem t i lt)
+  pub is_whole : None ≡ first_unread m → missing_from (i + 1) (drop i ms) ≡ missing_from (i + 1 + 1) (drop (i + 1) ms)
+  is_whole e = from_here None e
 
-  pub is_missing : (day : ℕ) → Some day ≡ first_unread (member_at (contents t) i) → missing_from (i + 1) (drop i (plain t).members) ≡ Some (ReadMissing (i + 1) day)
-  is_missing day e = at_member ∙ ap (λ (o : Option ℕ). missing_or (i + 1) o (missing_from (i + 1 + 1) (drop (i + 1) (plain t).members))) (sym e)
-
-  pub is_whole : None ≡ first_unread (member_at (contents t) i) → missing_from (i + 1) (drop i (plain t).members) ≡ missing_from (i + 1 + 1) (drop (i + 1) (plain t).members)
-  is_whole e = at_member ∙ ap (λ (o : Option ℕ). missing_or (i + 1) o (missing_from (i + 1 + 1) (drop (i + 1) (plain t).members))) (sym e)
-
-pub all_whole : (t : Table) (i : ℕ) → t.count ≤ i → missing_from (i + 1) (drop i (plain t).members) ≡ None
-all_whole t i le = let n = members_count t in at_drop_all (missing_from (i + 1)) (plain t).members i (omega arith)
+pub all_whole : (ms : List Member) (i : ℕ) → length ms ≤ i → missing_from (i + 1) (drop i ms) ≡ None
+all_whole ms i le = at_drop_all (missing_from (i + 1)) ms i le

@@ -1,36 +1,27 @@
--- A member's gas, and a pool's as sums over its members. Assumes nothing.
-use Rattle.std.proofs.Common.{◌≡◌, ℕ, ◌+◌, ◌-◌, ◌*◌, ◌≤◌, List, [], ◌∷◌, ℤ, pos, ◌+ℤ◌, ◌-ℤ◌, sum_by, sym, refl, ap, ◌∙◌, mul-le-mul, arith}
-use Rattle.std.proofs.lemmas.List.Sums.{sum_by-cons}
+-- A pool's gas, a member more at a time. Assumes nothing.
+use Rattle.std.proofs.Common.{◌≡◌, ℕ, ◌+◌, ◌<◌, ◌≤◌, List, [], ◌∷◌, ◌++◌, length, get_or, take, ℤ, ap, ◌∙◌, arith}
+use Rattle.std.proofs.lemmas.List.{take_more}
 use Rattle.std.proofs.lemmas.Int.{ints}
-use Rattle.agreement.specs.Book.{Member, blank}
-use Rattle.agreement.specs.Gases.{day_of, gas_of, together, total}
-use Rattle.pool.specs.declared.table.Table.{Table}
-use Rattle.pool.specs.Contents.{cell_at, contents, day_in, member_at, tabulated}
-use Rattle.pool.proofs.Lists.{get_or-tabulated}
+use Rattle.schedule.specs.declared.gas.Gas.{Gas}
+use Rattle.agreement.specs.Book.{Member}
+use Rattle.agreement.specs.Gases.{together, total}
+use Rattle.agreement.specs.Sizes.{Sized}
+use Rattle.pool.specs.Members.{nobody}
 
--- the total of differences is the difference of totals
-total_of : (f g h : Member → ℕ) (ms : List Member) → total (λ m. gas_of (f m) (g m) (h m)) ms ≡ gas_of (sum_by f ms) (sum_by g ms) (sum_by h ms)
-total_of f g h [] = refl
-total_of f g h (m ∷ ms) =
-    ap (together (gas_of (f m) (g m) (h m))) (total_of f g h ms)
-    ∙ step (f m) (sum_by f ms) (sum_by f (m ∷ ms)) (g m) (sum_by g ms) (sum_by g (m ∷ ms)) (h m) (sum_by h ms) (sum_by h (m ∷ ms)) (sum_by-cons f m ms) (sum_by-cons g m ms) (sum_by-cons h m ms)
-  where
-    step : (a b c d e k p q r : ℕ) → c ≡ a + b → k ≡ d + e → r ≡ p + q → together (gas_of a d p) (gas_of b e q) ≡ gas_of c k r
-    step a b c d e k p q r x y z =
-        let u : (pos a -ℤ pos d) +ℤ (pos b -ℤ pos e) ≡ pos c -ℤ pos k = omega (arith, ints) in
-        ap (λ (w : ℤ). record { difference = w; base = p + q }) u ∙ ap (gas_of c k) (sym z)
+same_gas : (x y : Gas) → x.difference ≡ y.difference → x.base ≡ y.base → x ≡ y
+same_gas x y p q = ap (λ (d : ℤ). record { difference = d; base = x.base }) p ∙ ap (λ (b : ℕ). record { difference = y.difference; base = b }) q
 
--- what a loop over the members has summed, at its end
-pub summed : (f g h : Member → ℕ) (at : ℕ → Member) (i n x y z : ℕ) → i ≡ n → x ≡ sum_by f (tabulated at i) → y ≡ sum_by g (tabulated at i) → z ≡ sum_by h (tabulated at i)
-    → gas_of x y z ≡ total (λ m. gas_of (f m) (g m) (h m)) (tabulated at n)
-summed f g h at i n x y z e p q r =
-    ap (λ w. gas_of w y z) p ∙ ap (λ w. gas_of (sum_by f (tabulated at i)) w z) q ∙ ap (λ w. gas_of (sum_by f (tabulated at i)) (sum_by g (tabulated at i)) w) r
-    ∙ sym (total_of f g h (tabulated at i)) ∙ ap (λ k. total (λ m. gas_of (f m) (g m) (h m)) (tabulated at k)) e
+total_push : (of : Member → Gas) (ms : List Member) (m : Member) → total of (ms ++ m ∷ []) ≡ together (total of ms) (of m)
+total_push of [] m = same_gas _ _ (omega (arith, ints)) (omega arith)
+total_push of (x ∷ ms) m =
+    let rest = total_push of ms m in
+    ap (together (of x)) rest ∙ same_gas _ _ (omega (arith, ints)) (omega arith)
 
--- a member's day of a number, from 1, is what stands in its cell
-pub day_in_lem : (t : Table) (place day : ℕ) → 1 ≤ day → day ≤ t.days.count → day_of day (member_at (contents t) place) ≡ day_in (contents t) (cell_at place (day - 1))
-day_in_lem t place day from upto = get_or-tabulated (λ d. day_in (contents t) (cell_at place d)) t.days.count (day - 1) blank (omega arith)
+pub total_more : (of : Member → Gas) (ms : List Member) (i : ℕ) → i < length ms → total of (take (i + 1) ms) ≡ together (total of (take i ms)) (of (get_or ms i nobody))
+total_more of ms i lt = ap (total of) (take_more ms i nobody lt) ∙ total_push of (take i ms) (get_or ms i nobody)
 
--- a month's receipts, less what is retained
-pub net_most : (r s : ℕ) → s ≤ 1550000 → (1000 - r) * s ≤ 1550000000
-net_most r s h = let l : 1000 - r ≤ 1000 = omega arith in let q = mul-le-mul l h in omega arith
+pub sized_more : (n m : ℕ) (x y : Gas) → Sized n x → Sized m y → Sized (n + m) (together x y)
+sized_more n m x y p q = record { difference_most = omega (arith, ints, p.difference_most, q.difference_most); base_most = omega (arith, p.base_most, q.base_most) }
+
+pub sized_within : (n m : ℕ) (x : Gas) → n ≤ m → Sized n x → Sized m x
+sized_within n m x le p = record { difference_most = omega (arith, p.difference_most); base_most = omega (arith, p.base_most) }

@@ -1,44 +1,33 @@
--- Where a table has a member, and when a call is accepted there. Assumes nothing.
-use Rattle.std.specs.Prelude.{◌≡◌, ℕ, ◌<◌, ◌≤◌, true, false, Some, None, Option, ◌≢◌, slice_index}
+-- When a call is accepted, and the cell that a posting is written to. Assumes nothing.
+use Rattle.std.specs.Prelude.{◌≡◌, ℕ, ◌+◌, ◌-◌, ◌*◌, ◌<◌, ◌≤◌, length, Some, None, Option, ◌==◌, position}
+use Rattle.rules.specs.Checks.{first}
+use Rattle.rules.specs.Days.{most_days}
 use Rattle.agreement.specs.declared.calls.Call.TheVariants.{Enrol}
+use Rattle.agreement.specs.declared.calls.Posting.{Posting}
+use Rattle.agreement.specs.Book.{Book, Member}
 use Rattle.agreement.specs.Calls.{posting_checks, refusal}
 use Rattle.agreement.specs.Limits.{most_members, most_retention, most_therms}
-use Rattle.agreement.specs.Postings.{enrolled}
-use Rattle.schedule.specs.Checks.{first}
-use Rattle.pool.specs.declared.table.Table.{Table}
-use Rattle.pool.specs.Contents.{plain}
 
--- the member at a place is the first with this account
-pub record FirstAt (t : Table) (account place : ℕ) : Type 0 where
-  pub here : place < t.count
-  pub same : slice_index t.accounts place ≡ account
-  pub before : (j : ℕ) → j < place → slice_index t.accounts j ≢ account
+-- the place of the first member with an account
+abbrev pub place_of : ℕ → Book → Option ℕ
+place_of account book = position (λ (m : Member). m.account == account) book.members
 
--- the place of the first member with this account, or none has it
-abbrev pub Finds : Table → ℕ → Option ℕ → Type 0
-Finds t account (Some place) = FirstAt t account place
-Finds t account None = (j : ℕ) → j < t.count → slice_index t.accounts j ≢ account
-
--- the plain book has a member with this account, and the table has the first at a place
-pub record Has (t : Table) (account place : ℕ) : Type 0 where
-  pub known : enrolled account (plain t).members ≡ true
-  pub at : FirstAt t account place
-
--- the place of the plain book's member with this account, or it has none
-abbrev pub Places : Table → ℕ → Option ℕ → Type 0
-Places t account (Some place) = Has t account place
-Places t account None = enrolled account (plain t).members ≡ false
+-- the cell of a member, at a place from 0, and of one of its days, from 1
+abbrev pub cell_at : ℕ → ℕ → ℕ
+cell_at place day = place * most_days + (day - 1)
 
 -- an enrolment is accepted
-pub record Enrols (t : Table) (account retention : ℕ) : Type 0 where
-  pub free : refusal (Enrol account retention) (plain t) ≡ None
-  pub room : t.count < most_members
+pub record Enrols (book : Book) (account retention : ℕ) : Type 0 where
+  pub free : refusal (Enrol account retention) book ≡ None
+  pub room : length book.members < most_members
   pub small : retention ≤ most_retention
 
--- a posting is accepted, for the member at a place
-pub record Posts (t : Table) (account day therms place : ℕ) : Type 0 where
-  pub free : first (posting_checks account day therms (plain t)) ≡ None
-  pub has : Has t account place
-  pub from : 1 ≤ day
-  pub upto : day ≤ t.days.count
-  pub small : therms ≤ most_therms
+-- a posting is accepted, and this is the cell of its member and day
+pub record Posts (book : Book) (posting : Posting) (cell : ℕ) : Type 0 where
+  pub free : first (posting_checks posting book) ≡ None
+  pub place : ℕ
+  pub here : place_of posting.account book ≡ Some place
+  pub at : cell ≡ cell_at place posting.day
+  pub from : 1 ≤ posting.day
+  pub upto : posting.day ≤ book.days
+  pub small : posting.therms ≤ most_therms

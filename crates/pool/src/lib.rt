@@ -6,12 +6,13 @@ mod calls;
 mod closing;
 mod gas;
 mod lines;
+mod row;
 mod runs;
+mod schedules;
 mod settle;
 mod settlement;
 mod shares;
 mod table;
-mod writes;
 
 pub use book::PoolBook;
 pub use runs::Outcome;

@@ -5,7 +5,9 @@ ghost use Rattle.pool.specs.Bounds.{most_cents, no_bill};
 
 use agreement::{Bill, MOST_MEMBERS};
 
-#[derive(Clone, Copy)]
+// It is `Copy` for callers, which a fixed list is not: so its bills are an array, and their number. It has no `==`, since
+// what stands past the number of bills is none of its content.
+#[derive(Clone, Copy, Debug)]
 pub struct Settlement {
     pub(crate) count: usize,
     pub(crate) bills: [Bill; MOST_MEMBERS],

@@ -15,5 +15,5 @@ fn main(rt: HostRuntime) -> io::Result<()> {
     rt.stdin().take(MOST_READ).read_to_end(&mut file)?;
     let mut block = [0; BLOCK];
     let end = list_month(&file, &mut block);
-    rt.write_all(&block[0..end])
+    rt.write_all(&block[..end])
 }

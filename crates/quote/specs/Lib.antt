@@ -1,3 +1,4 @@
 -- The definitions that this crate's contracts cite, one concept to a file. Assumes nothing.
 pub mod Quotes
-pub mod Words
+pub mod Requests
+pub mod Texts

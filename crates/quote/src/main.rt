@@ -2,43 +2,31 @@
 #![tactic(auto)]
 
 mod account;
-mod dollars;
+mod printing;
 mod request;
 
-use account::{quote_cash_out, quote_day};
+use account::{Refused, quote_cash_out, quote_day};
 use request::{Request, read_request};
-use std::io;
 use std::io::{BufRead, BufReader};
+use std::{fmt, io};
 
-// Prints the account that a request asks for, or why there is none.
-fn answer(rt: &HostRuntime, request: Request) -> io::Result<()> {
-    match request {
-        Request::CashOut {
-            bands,
-            average,
-            lowest,
-            delivered,
-            received,
-        } => match quote_cash_out(bands, average, lowest, delivered, received) {
-            Ok(account) => rt.print(account),
-            Err(refused) => rt.println(refused),
-        },
-        Request::Day {
-            nominated,
-            used,
-            notice,
-        } => match quote_day(nominated, used, notice) {
-            Ok(account) => rt.print(account),
-            Err(refused) => rt.println(refused),
-        },
+// Prints an account, or why there is none.
+fn print_account<T: fmt::Display + Drop>(
+    rt: &HostRuntime,
+    account: Result<T, Refused>,
+) -> io::Result<()> {
+    match account {
+        Ok(account) => rt.print(account),
+        Err(refused) => rt.println(refused),
     }
 }
 
-// Repeats the line, and prints its account or what is wrong with it.
+// Repeats the line, and prints the account that it asks for or what is wrong with it.
 fn answer_line(rt: &HostRuntime, line: &str) -> io::Result<()> {
     println!(rt; "{line}")?;
     match read_request(line) {
-        Ok(request) => answer(rt, request),
+        Ok(Request::CashOut(month)) => print_account(rt, quote_cash_out(month)),
+        Ok(Request::Day(day)) => print_account(rt, quote_day(day)),
         Err(fault) => rt.println(fault),
     }
 }

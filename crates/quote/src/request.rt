@@ -1,146 +1,93 @@
-ghost use Rattle.std.specs.Prelude.{Ok, Err, codes};
-ghost use Rattle.std.specs.Str.Iter.{split_whitespace_rest};
-ghost use Rattle.std.specs.Char.{is_not_whitespace};
-ghost use Rattle.std.specs.Str.{NoCharPasses};
-ghost use Rattle.quote.specs.Words.{NextWord, NextReads, NoticeRead, FieldsRead, ReadAs};
-
-use std::fmt;
-use std::str::{FromStr, SplitWhitespace};
-
 // What a line asks for.
-#[derive(Clone, Copy)]
+ghost use Rattle.std.specs.Prelude.{codes, MatchResult};
+ghost use Rattle.wording.specs.Lines.{ReadAs, SpellsNothing, GoesOnAs, GoesOnAsNothing};
+ghost use Rattle.quote.specs.Requests.{Spells, SpellsNotice};
+
+use wording::{Fault, LineReader};
+
+// A month to cash out: the number of bands, as the line has it, since a type of bands would have to refuse it here, the prices of the ladder, the gas delivered and the
+// net gas received, in therms.
+#[derive(Clone, Copy, PartialEq, Eq, Debug)]
+pub struct Month {
+    pub bands: u8,
+    pub average: u32,
+    pub lowest: u32,
+    pub delivered: u32,
+    pub received: i32,
+}
+
+// A day to charge: its nomination and its use, in therms, and whether there is a notice.
+#[derive(Clone, Copy, PartialEq, Eq, Debug)]
+pub struct DayUse {
+    pub nominated: u32,
+    pub used: u32,
+    pub notice: bool,
+}
+
+#[derive(Clone, Copy, PartialEq, Eq, Debug)]
 pub enum Request {
     // cash-out BANDS AVERAGE LOWEST DELIVERED RECEIVED
-    CashOut {
-        bands: u8,
-        average: u32,
-        lowest: u32,
-        delivered: u32,
-        received: i32,
-    },
+    CashOut(Month),
     // day NOMINATED USED, with the word notice behind it on a day with a notice
-    Day {
-        nominated: u32,
-        used: u32,
-        notice: bool,
-    },
+    Day(DayUse),
 }
 
-// What is wrong with a line.
-#[derive(Clone, Copy)]
-pub enum Fault<'a> {
-    Empty,
-    UnknownRequest(&'a str),
-    Missing(&'static str),
-    NotANumber(&'static str, &'a str),
-    Superfluous(&'a str),
-}
-
-// The next word, which stands for what `name` says.
-fn next_word<'a>(words: &mut SplitWhitespace<'a>, name: &'static str) -> Result<&'a str, Fault<'a>>
-    ensures { elim result [ Ok word ↦ NextWord (split_whitespace_rest words.old) word.now (split_whitespace_rest words.new) | Err _ ↦ Unit {0} ] }
+// The cash-out behind its first word.
+fn read_cash_out<'a>(line: &mut LineReader<'a>) -> Result<Request, Fault<'a>>
+    ensures { MatchResult result (GoesOnAs Spells (codes "cash-out") line.old) (λ _. GoesOnAsNothing Spells (codes "cash-out") line.old) }
 {
-    match words.next() {
-        Some(word) => Ok(word),
-        None => Err(Fault::Missing(name)),
-    }
-}
-
-// The next word as a number.
-fn next_number<'a, T: FromStr>(
-    words: &mut SplitWhitespace<'a>,
-    name: &'static str,
-) -> Result<T, Fault<'a>>
-where
-    T::Err: Drop,
-    ensures { elim result [ Ok x ↦ NextReads T.FromStr.from_str_gives (split_whitespace_rest words.old) x (split_whitespace_rest words.new) | Err _ ↦ Unit {0} ] }
-{
-    let word = next_word(words, name)?;
-    match word.parse::<T>() {
-        Ok(number) => Ok(number),
-        Err(_) => Err(Fault::NotANumber(name, word)),
-    }
-}
-
-// That no word is left.
-fn end<'a>(words: &mut SplitWhitespace<'a>) -> Result<(), Fault<'a>>
-    ensures { elim result [ Ok _ ↦ NoCharPasses is_not_whitespace (split_whitespace_rest words.old) | Err _ ↦ Unit {0} ] }
-{
-    match words.next() {
-        Some(word) => Err(Fault::Superfluous(word)),
-        None => Ok(()),
-    }
-}
-
-fn read_cash_out<'a>(words: &mut SplitWhitespace<'a>) -> Result<Request, Fault<'a>>
-    ensures { elim result [ Ok request ↦ FieldsRead (codes "cash-out") (split_whitespace_rest words.old) request | Err _ ↦ Unit {0} ] }
-{
-    let bands = next_number(words, "the number of bands")?;
-    let average = next_number(words, "the average price")?;
-    let lowest = next_number(words, "the lowest price")?;
-    let delivered = next_number(words, "the gas delivered")?;
-    let received = next_number(words, "the net gas received")?;
-    end(words)?;
-    Ok(Request::CashOut {
+    let bands = line.number("the number of bands")?;
+    let average = line.number("the average price")?;
+    let lowest = line.number("the lowest price")?;
+    let delivered = line.number("the gas delivered")?;
+    let received = line.number("the net gas received")?;
+    line.end()?;
+    Ok(Request::CashOut(Month {
         bands,
         average,
         lowest,
         delivered,
         received,
-    })
+    }))
 }
 
-// Whether the word notice stands last, or nothing.
-fn read_notice<'a>(words: &mut SplitWhitespace<'a>) -> Result<bool, Fault<'a>>
-    ensures { elim result [ Ok notice ↦ NoticeRead (split_whitespace_rest words.old) notice | Err _ ↦ Unit {0} ] }
+// Whether the word notice stands last; else no word is left.
+fn read_notice<'a>(line: &mut LineReader<'a>) -> Result<bool, Fault<'a>>
+    ensures { MatchResult result (ReadAs SpellsNotice line.old) (λ _. SpellsNothing SpellsNotice line.old) }
 {
-    match words.next() {
+    match line.word_if_any() {
         None => Ok(false),
         Some("notice") => {
-            end(words)?;
+            line.end()?;
             Ok(true)
         }
         Some(word) => Err(Fault::Superfluous(word)),
     }
 }
 
-fn read_day<'a>(words: &mut SplitWhitespace<'a>) -> Result<Request, Fault<'a>>
-    ensures { elim result [ Ok request ↦ FieldsRead (codes "day") (split_whitespace_rest words.old) request | Err _ ↦ Unit {0} ] }
+// The day behind its first word.
+fn read_day<'a>(line: &mut LineReader<'a>) -> Result<Request, Fault<'a>>
+    ensures { MatchResult result (GoesOnAs Spells (codes "day") line.old) (λ _. GoesOnAsNothing Spells (codes "day") line.old) }
 {
-    let nominated = next_number(words, "the nomination")?;
-    let used = next_number(words, "the gas used")?;
-    let notice = read_notice(words)?;
-    Ok(Request::Day {
+    let nominated = line.number("the nomination")?;
+    let used = line.number("the gas used")?;
+    let notice = read_notice(line)?;
+    Ok(Request::Day(DayUse {
         nominated,
         used,
         notice,
-    })
+    }))
 }
 
-// The request of a line, or what is wrong with it.
+// The request that the words of a line spell; just where they spell none, what is wrong with the line.
 pub fn read_request<'a>(line: &'a str) -> Result<Request, Fault<'a>>
-    ensures { elim result [ Ok request ↦ ReadAs line.now request | Err _ ↦ Unit {0} ] }
+    ensures { MatchResult result (ReadAs Spells line.now) (λ _. SpellsNothing Spells line.now) }
 {
-    let mut words = line.split_whitespace();
-    match words.next() {
-        Some("cash-out") => read_cash_out(&mut words),
-        Some("day") => read_day(&mut words),
-        Some(word) => Err(Fault::UnknownRequest(word)),
+    let mut reader = LineReader::new(line);
+    match reader.word_if_any() {
+        Some("cash-out") => read_cash_out(&mut reader),
+        Some("day") => read_day(&mut reader),
+        Some(word) => Err(Fault::UnknownRequest(word, ": write cash-out or day")),
         None => Err(Fault::Empty),
-    }
-}
-
-impl fmt::Display for Fault<'_> {
-    fn fmt<W: fmt::Write>(&self, f: &mut fmt::Formatter<W>) -> fmt::Result {
-        match *self {
-            Fault::Empty => write!(f, "  an empty line asks for nothing"),
-            Fault::UnknownRequest(word) => write!(
-                f,
-                "  '{word}' is no request: write cash-out or day"
-            ),
-            Fault::Missing(name) => write!(f, "  {name} is missing"),
-            Fault::NotANumber(name, word) => write!(f, "  '{word}' is no number for {name}"),
-            Fault::Superfluous(word) => write!(f, "  '{word}' does not belong here"),
-        }
     }
 }

@@ -3,10 +3,10 @@ ghost use Rattle.std.specs.Prelude.{◌≡◌};
 ghost use Rattle.rules.specs.Days.{is_month_length};
 
 // The days of the shortest month.
-const LEAST_DAYS: u8 = 28;
+pub const LEAST_DAYS: u8 = 28;
 
 // The days of the longest month.
-const MOST_DAYS: u8 = 31;
+pub const MOST_DAYS: u8 = 31;
 
 // Whether a month can have so many days.
 pub fn is_month_length(days: u8) -> bool

@@ -4,4 +4,4 @@
 
 mod days;
 
-pub use days::is_month_length;
+pub use days::{LEAST_DAYS, MOST_DAYS, is_month_length};

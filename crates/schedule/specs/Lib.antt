@@ -4,4 +4,3 @@ pub mod Schedules
 pub mod Charges
 pub mod Answers
 pub mod Laws
-pub mod Checks

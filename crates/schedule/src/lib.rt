@@ -3,10 +3,12 @@
 
 mod answer;
 mod charge;
+mod gas;
 mod line;
 mod question;
 
-pub use answer::{first_greatest, is_in_range};
+pub use answer::first_greatest;
 pub use charge::{Charge, charge_at};
+pub use gas::Gas;
 pub use line::Line;
 pub use question::Schedule;

@@ -1,6 +1,8 @@
 ghost use Rattle.std.specs.Prelude.{◌≡◌, ◌^◌, ◌≤◌, ◌*ℤ◌, unsigned_abs};
 ghost use Rattle.schedule.specs.Lines.{amount, within_limits, greater_of};
 
+use super::gas::Gas;
+
 // A line of a charge schedule, in grains per thousandth of a therm: `a` of the difference and `b` of the base.
 #[derive(Clone, Copy, PartialEq, Eq, Debug)]
 pub struct Line {
@@ -18,11 +20,14 @@ fn times(rate: i32, quantity: i128) -> i128
 }
 
 impl Line {
+    // The line (0, 0).
+    pub const GIVES_NOTHING: Line = Line { a: 0, b: 0 };
+
     // What the line gives at a difference and a base, in grains.
-    pub fn amount(self, difference: i64, base: u64) -> i128
-        ensures { result ≡ amount difference base self }
+    pub fn amount(self, gas: Gas) -> i128
+        ensures { result ≡ amount gas.difference gas.base self }
     {
-        times(self.a, difference as i128) + times(self.b, base as i128)
+        times(self.a, gas.difference as i128) + times(self.b, gas.base as i128)
     }
 
     // Whether the line lies within the limits of a schedule's lines.
@@ -33,10 +38,10 @@ impl Line {
     }
 
     // The other line where it gives more, otherwise this one.
-    pub fn or_greater(self, other: Line, difference: i64, base: u64) -> Line
-        ensures { result ≡ greater_of difference base self other }
+    pub fn or_greater(self, other: Line, gas: Gas) -> Line
+        ensures { result ≡ greater_of gas.difference gas.base self other }
     {
-        if other.amount(difference, base) > self.amount(difference, base) {
+        if other.amount(gas) > self.amount(gas) {
             other
         } else {
             self

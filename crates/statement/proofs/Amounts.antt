@@ -1,11 +1,13 @@
 -- An amount that stands for a total is posted as the total is.
-use Rattle.std.proofs.Common.{◌≡◌, ℕ, ◌<◌, ◌≤◌, Bool, true, false, ltb, List, [], ◌∷◌, ℤ, ◌+ℤ◌, nat_abs, Some, Ok, Err, Option, Result, sym, refl, ap, ◌∙◌, ltb-false, ltb-true, lt-ltb}
+use Rattle.std.proofs.Common.{◌≡◌, ℕ, ◌<◌, ◌≤◌, Bool, true, false, ltb, List, [], ◌∷◌, ℤ, ◌+ℤ◌, nat_abs, Some, Ok, Err, Option, Result, sym, refl, ap, ◌∙◌, subst, ltb-false, ltb-true, lt-ltb, w64, SFits, to_z, of_z}
+use mir.Syntax.{w128}
+use Rattle.std.proofs.lemmas.Int.{to_z-of_z}
 use Rattle.billing.specs.declared.account.Account.{Account}
 use Rattle.billing.specs.declared.entries.Entry.TheVariants.{Post}
 use Rattle.billing.specs.declared.refusals.Refusal.{Refusal}
 use Rattle.billing.specs.declared.refusals.Refusal.TheVariants.{AmountTooLarge, BalanceTooLarge}
 use Rattle.billing.specs.Limits.{most_amount, most_balance}
-use Rattle.billing.specs.Refusals.{◌when◌, first, changed_unless, refusal_of}
+use Rattle.rules.specs.Checks.{◌when◌, first, changed_unless, refusal_of}
 use Rattle.billing.specs.Keepings.{found, replaced}
 use Rattle.billing.specs.Accounts.{account, account_number, balance_of, call_refusal, after}
 
@@ -13,6 +15,11 @@ use Rattle.billing.specs.Accounts.{account, account_number, balance_of, call_ref
 pub record StandsFor (total amount : ℤ) : Type 0 where
   pub same : nat_abs total ≤ most_amount → amount ≡ total
   pub beyond : most_amount < nat_abs total → most_amount < nat_abs amount
+
+-- as both were passed on
+pub stands_for : (t a : ℤ) → SFits w128 t → SFits w64 a → StandsFor (to_z w128 (of_z w128 t)) a → StandsFor t (to_z w64 (of_z w64 a))
+stands_for t a f g s =
+    subst (StandsFor t) (sym (to_z-of_z w64 a g)) (subst (λ x. StandsFor x a) (to_z-of_z w128 t f) s)
 
 module _ (m : ℕ) (xs : List Account) where
   -- what an amount that is too large is refused by, whatever it is

@@ -3,7 +3,7 @@ use Rattle.std.specs.Prelude.{ℕ, List, pos, Ok, Err, Result}
 use Rattle.billing.specs.declared.account.Account.{Account}
 use Rattle.billing.specs.declared.refusals.Refusal.{Refusal}
 use Rattle.billing.specs.declared.sheet.RateSheet.{RateSheet}
-use Rattle.billing.specs.Refusals.{unless}
+use Rattle.rules.specs.Checks.{unless}
 use Rattle.billing.specs.Keepings.{add_refusal, after_adding}
 use Rattle.billing.specs.Sheets.{add_sheet_refusal, after_adding_sheet}
 use Rattle.billing.specs.Bills.{billed}
@@ -19,14 +19,14 @@ abbrev pub sheets_after : Request → ℕ → List RateSheet → List RateSheet
 sheets_after (Sheet number cents blocks) places sheets = after_adding_sheet places number cents blocks sheets
 sheets_after (Member number) places sheets = sheets
 sheets_after (Bill member sheet usage) places sheets = sheets
-sheets_after (Enter member entry) places sheets = sheets
+sheets_after (Enter call) places sheets = sheets
 
 -- the accounts after a request: a new member owes nothing, a bill's total is posted, an entry is made
 abbrev pub accounts_after : Request → List RateSheet → ℕ → List Account → List Account
 accounts_after (Sheet number cents blocks) sheets places accounts = accounts
 accounts_after (Member number) sheets places accounts = after_adding account_number places (account number (pos 0)) accounts
 accounts_after (Bill member sheet usage) sheets places accounts = after_bill (billed sheet usage sheets) member accounts
-accounts_after (Enter member entry) sheets places accounts = after member entry accounts
+accounts_after (Enter call) sheets places accounts = after call.account call.entry accounts
 
 -- what there is to print of a value; a refusal stays one
 abbrev pub printing : {X : Type 0} → (X → Done) → Result X Refusal → Result Done Refusal
@@ -41,5 +41,5 @@ answer_to (Member number) sheet_places sheets places accounts =
     unless (add_refusal account_number places (account number (pos 0)) accounts) Added
 answer_to (Bill member sheet usage) sheet_places sheets places accounts =
     printing (λ bill. Billed bill (balance_of member (after_bill (billed sheet usage sheets) member accounts))) (posted (billed sheet usage sheets) member accounts)
-answer_to (Enter member entry) sheet_places sheets places accounts =
-    printing (λ added. Entered entry added (balance_of member (after member entry accounts))) (answer member entry accounts)
+answer_to (Enter call) sheet_places sheets places accounts =
+    printing (λ added. Entered call.entry added (balance_of call.account (after call.account call.entry accounts))) (answer call.account call.entry accounts)

@@ -2,3 +2,4 @@
 pub mod Statements
 pub mod Requests
 pub mod Answers
+pub mod Texts

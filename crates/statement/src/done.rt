@@ -1,7 +1,7 @@
 // What there is to print of a request that was carried out, with amounts in cents.
 use billing::{Bill, Entry};
 
-#[derive(Clone, Copy)]
+#[derive(Clone, Copy, PartialEq, Eq, Debug)]
 pub(crate) enum Done {
     // a sheet or a member was added
     Added,

@@ -3,18 +3,17 @@
 #![tactic(auto)]
 
 mod desk;
-mod dollars;
 mod done;
 mod printing;
 mod request;
 
 use billing::{Account, Blocks, Keeping, RateSheet};
-use desk::answer;
+use desk::Desk;
 use request::read_request;
 use std::io;
 use std::io::{BufRead, BufReader};
 
-// how many sheets and accounts there is memory for
+// how many sheets and accounts there is memory for, which is lent: a keeping asks for none
 const MOST_SHEETS: usize = 16;
 
 const MOST_ACCOUNTS: usize = 64;
@@ -25,14 +24,16 @@ fn main(rt: HostRuntime) -> io::Result<()> {
     };
     let mut sheet_memory = [blank; MOST_SHEETS];
     let mut account_memory = [Account::new(0); MOST_ACCOUNTS];
-    let mut sheets = Keeping::new(&mut sheet_memory);
-    let mut accounts = Keeping::new(&mut account_memory);
+    let mut desk = Desk {
+        sheets: Keeping::new(&mut sheet_memory),
+        accounts: Keeping::new(&mut account_memory),
+    };
     for line in BufReader::new(rt.alloc(), rt.stdin())?.lines(rt.alloc()) {
         let line = line?;
         let text = line.as_str();
         println!(rt; "{text}")?;
         match read_request(text) {
-            Ok(request) => answer(&rt, &mut sheets, &mut accounts, request)?,
+            Ok(request) => desk.answer(&rt, request)?,
             Err(fault) => rt.println(fault)?,
         }
     }

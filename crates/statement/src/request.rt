@@ -1,14 +1,12 @@
 // What a line asks for.
 ghost use Rattle.std.specs.Prelude.{codes, MatchResult};
-ghost use Rattle.std.specs.Str.Iter.{split_whitespace_rest};
 ghost use Rattle.wording.specs.Lines.{ReadAs, SpellsNothing, GoesOnAs, GoesOnAsNothing};
 ghost use Rattle.statement.specs.Requests.{Spells, SpellsBlocks, NumberOrEnd, NoNumber};
 
-use billing::{Block, Blocks, Entry, Usage};
-use std::str::SplitWhitespace;
-use wording::{Fault, end, next_number};
+use billing::{Block, Blocks, Call, Entry, Usage};
+use wording::{Fault, LineReader};
 
-#[derive(Clone, Copy)]
+#[derive(Clone, Copy, PartialEq, Eq, Debug)]
 pub enum Request {
     // sheet NUMBER CENTS A MONTH, then for each block that ends its END and RATE, and the last RATE
     Sheet {
@@ -27,50 +25,41 @@ pub enum Request {
         usage: Usage,
     },
     // pay MEMBER CENTS, or late MEMBER
-    Enter {
-        member: u32,
-        entry: Entry,
-    },
+    Enter(Call),
 }
 
-// The next word as a number, if there is one.
-fn maybe_number<'a>(
-    words: &mut SplitWhitespace<'a>,
-    name: &'static str,
-) -> Result<Option<u32>, Fault<'a>>
-    ensures { MatchResult result (NumberOrEnd (split_whitespace_rest words.old) (split_whitespace_rest words.new)) (λ _. NoNumber (split_whitespace_rest words.old)) }
+// The next word as a number, if there is one. It is `LineReader::number` with no fault of a missing word; beside it, since of
+// all lines only a sheet's may end where a number can stand.
+fn maybe_number<'a>(line: &mut LineReader<'a>, name: &'static str) -> Result<Option<u32>, Fault<'a>>
+    ensures { MatchResult result (NumberOrEnd line.old line.new) (λ _. NoNumber line.old) }
 {
-    let Some(word) = words.next() else {
-        return Ok(None);
-    };
-    match word.parse::<u32>() {
-        Ok(number) => Ok(Some(number)),
-        Err(_) => Err(Fault::NotANumber(name, word)),
-    }
+    line.word_if_any()
+        .map(|word| word.parse().map_err(|_| Fault::NotANumber(name, word)))
+        .transpose()
 }
 
 // One, three or five numbers to the end of the line: the blocks that end, and the last rate.
-fn read_blocks<'a>(words: &mut SplitWhitespace<'a>) -> Result<Blocks, Fault<'a>>
-    ensures { MatchResult result (ReadAs SpellsBlocks (split_whitespace_rest words.old)) (λ _. SpellsNothing SpellsBlocks (split_whitespace_rest words.old)) }
+fn read_blocks<'a>(line: &mut LineReader<'a>) -> Result<Blocks, Fault<'a>>
+    ensures { MatchResult result (ReadAs SpellsBlocks line.old) (λ _. SpellsNothing SpellsBlocks line.old) }
 {
-    let one: u32 = next_number(words, "the rate")?;
-    let Some(first_rate) = maybe_number(words, "the rate of the first block")? else {
+    let one: u32 = line.number("the rate")?;
+    let Some(first_rate) = maybe_number(line, "the rate of the first block")? else {
         return Ok(Blocks::One { rate: one });
     };
     let first = Block {
         end: one,
         rate: first_rate,
     };
-    let two: u32 = next_number(words, "the rate above")?;
-    let Some(second_rate) = maybe_number(words, "the rate of the second block")? else {
+    let two: u32 = line.number("the rate above")?;
+    let Some(second_rate) = maybe_number(line, "the rate of the second block")? else {
         return Ok(Blocks::Two { first, rate: two });
     };
     let second = Block {
         end: two,
         rate: second_rate,
     };
-    let rate = next_number(words, "the rate above")?;
-    end(words)?;
+    let rate = line.number("the rate above")?;
+    line.end()?;
     Ok(Blocks::Three {
         first,
         second,
@@ -79,12 +68,12 @@ fn read_blocks<'a>(words: &mut SplitWhitespace<'a>) -> Result<Blocks, Fault<'a>>
 }
 
 // The rate sheet behind the first word.
-fn read_sheet<'a>(words: &mut SplitWhitespace<'a>) -> Result<Request, Fault<'a>>
-    ensures { MatchResult result (GoesOnAs Spells (codes "sheet") (split_whitespace_rest words.old)) (λ _. GoesOnAsNothing Spells (codes "sheet") (split_whitespace_rest words.old)) }
+fn read_sheet<'a>(line: &mut LineReader<'a>) -> Result<Request, Fault<'a>>
+    ensures { MatchResult result (GoesOnAs Spells (codes "sheet") line.old) (λ _. GoesOnAsNothing Spells (codes "sheet") line.old) }
 {
-    let number = next_number(words, "the sheet")?;
-    let monthly_cents = next_number(words, "the monthly charge")?;
-    let blocks = read_blocks(words)?;
+    let number = line.number("the sheet")?;
+    let monthly_cents = line.number("the monthly charge")?;
+    let blocks = read_blocks(line)?;
     Ok(Request::Sheet {
         number,
         monthly_cents,
@@ -92,26 +81,27 @@ fn read_sheet<'a>(words: &mut SplitWhitespace<'a>) -> Result<Request, Fault<'a>>
     })
 }
 
-// The new member behind the first word.
-fn read_member<'a>(words: &mut SplitWhitespace<'a>) -> Result<Request, Fault<'a>>
-    ensures { MatchResult result (GoesOnAs Spells (codes "member") (split_whitespace_rest words.old)) (λ _. GoesOnAsNothing Spells (codes "member") (split_whitespace_rest words.old)) }
+// The new member behind the first word. Read as `read_late` reads its member; each makes its own request of it, and both on
+// one reading would be no shorter.
+fn read_member<'a>(line: &mut LineReader<'a>) -> Result<Request, Fault<'a>>
+    ensures { MatchResult result (GoesOnAs Spells (codes "member") line.old) (λ _. GoesOnAsNothing Spells (codes "member") line.old) }
 {
-    let number = next_number(words, "the member")?;
-    end(words)?;
+    let number = line.number("the member")?;
+    line.end()?;
     Ok(Request::Member { number })
 }
 
 // The bill behind the first word.
-fn read_bill<'a>(words: &mut SplitWhitespace<'a>) -> Result<Request, Fault<'a>>
-    ensures { MatchResult result (GoesOnAs Spells (codes "bill") (split_whitespace_rest words.old)) (λ _. GoesOnAsNothing Spells (codes "bill") (split_whitespace_rest words.old)) }
+fn read_bill<'a>(line: &mut LineReader<'a>) -> Result<Request, Fault<'a>>
+    ensures { MatchResult result (GoesOnAs Spells (codes "bill") line.old) (λ _. GoesOnAsNothing Spells (codes "bill") line.old) }
 {
-    let member = next_number(words, "the member")?;
-    let sheet = next_number(words, "the sheet")?;
-    let days = next_number(words, "the days of the month")?;
-    let served = next_number(words, "the days served")?;
-    let therms = next_number(words, "the therms")?;
-    let pool_cents = next_number(words, "the pool's cents")?;
-    end(words)?;
+    let member = line.number("the member")?;
+    let sheet = line.number("the sheet")?;
+    let days = line.number("the days of the month")?;
+    let served = line.number("the days served")?;
+    let therms = line.number("the therms")?;
+    let pool_cents = line.number("the pool's cents")?;
+    line.end()?;
     Ok(Request::Bill {
         member,
         sheet,
@@ -125,41 +115,42 @@ fn read_bill<'a>(words: &mut SplitWhitespace<'a>) -> Result<Request, Fault<'a>>
 }
 
 // The payment behind the first word.
-fn read_payment<'a>(words: &mut SplitWhitespace<'a>) -> Result<Request, Fault<'a>>
-    ensures { MatchResult result (GoesOnAs Spells (codes "pay") (split_whitespace_rest words.old)) (λ _. GoesOnAsNothing Spells (codes "pay") (split_whitespace_rest words.old)) }
+fn read_payment<'a>(line: &mut LineReader<'a>) -> Result<Request, Fault<'a>>
+    ensures { MatchResult result (GoesOnAs Spells (codes "pay") line.old) (λ _. GoesOnAsNothing Spells (codes "pay") line.old) }
 {
-    let member = next_number(words, "the member")?;
-    let amount = next_number(words, "the amount")?;
-    end(words)?;
-    Ok(Request::Enter {
-        member,
+    let account = line.number("the member")?;
+    let amount = line.number("the amount")?;
+    line.end()?;
+    Ok(Request::Enter(Call {
+        account,
         entry: Entry::Pay { amount },
-    })
+    }))
 }
 
-// The late charge behind the first word.
-fn read_late<'a>(words: &mut SplitWhitespace<'a>) -> Result<Request, Fault<'a>>
-    ensures { MatchResult result (GoesOnAs Spells (codes "late") (split_whitespace_rest words.old)) (λ _. GoesOnAsNothing Spells (codes "late") (split_whitespace_rest words.old)) }
+// The late charge behind the first word. Its words are a new member's: one function of both would be handed the request
+// to make, and be no shorter.
+fn read_late<'a>(line: &mut LineReader<'a>) -> Result<Request, Fault<'a>>
+    ensures { MatchResult result (GoesOnAs Spells (codes "late") line.old) (λ _. GoesOnAsNothing Spells (codes "late") line.old) }
 {
-    let member = next_number(words, "the member")?;
-    end(words)?;
-    Ok(Request::Enter {
-        member,
+    let account = line.number("the member")?;
+    line.end()?;
+    Ok(Request::Enter(Call {
+        account,
         entry: Entry::Late,
-    })
+    }))
 }
 
 // The request that the words of a line spell; just where they spell none, what is wrong with the line.
 pub(crate) fn read_request<'a>(line: &'a str) -> Result<Request, Fault<'a>>
     ensures { MatchResult result (ReadAs Spells line.now) (λ _. SpellsNothing Spells line.now) }
 {
-    let mut words = line.split_whitespace();
-    match words.next() {
-        Some("sheet") => read_sheet(&mut words),
-        Some("member") => read_member(&mut words),
-        Some("bill") => read_bill(&mut words),
-        Some("pay") => read_payment(&mut words),
-        Some("late") => read_late(&mut words),
+    let mut reader = LineReader::new(line);
+    match reader.word_if_any() {
+        Some("sheet") => read_sheet(&mut reader),
+        Some("member") => read_member(&mut reader),
+        Some("bill") => read_bill(&mut reader),
+        Some("pay") => read_payment(&mut reader),
+        Some("late") => read_late(&mut reader),
         Some(word) => Err(Fault::UnknownRequest(word, "")),
         None => Err(Fault::Empty),
     }

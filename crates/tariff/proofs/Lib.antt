@@ -1,5 +1,3 @@
 pub mod Joins
 pub mod Listed
-pub mod Bandings
-pub mod DailyCharges
-pub mod Charged
+pub mod Mapped

@@ -1,27 +1,12 @@
 -- A supplier's list of lines, checked and asked. Assumes nothing.
-use Rattle.std.proofs.Common.{◌≡◌, ℕ, ◌<◌, true, false, cond, List, [], ◌∷◌, length, get_or, ℤ, pos, Ok, Err, Result, sym, refl, ◌∙◌, arith}
-use Rattle.std.specs.List.{AllByRecursion}
-use Rattle.std.proofs.ByRecursion.{All-get_or}
-use Rattle.std.proofs.lemmas.Bool.{and_from}
+use Rattle.std.proofs.Common.{◌≡◌, ℕ, true, false, cond, List, [], ◌∷◌, ℤ, pos, Ok, Err, Result, sym, refl, arith}
 use Rattle.schedule.specs.declared.line.Line.{Line}
-use Rattle.schedule.specs.Lines.{line, within_limits}
-use Rattle.schedule.specs.Schedules.{all_within_limits}
+use Rattle.schedule.specs.Lines.{line}
 use Rattle.schedule.specs.Answers.{in_range, answer}
 use Rattle.tariff.specs.declared.refusal.Refusal.{Refusal}
 use Rattle.tariff.specs.declared.refusal.Refusal.TheVariants.{BadLineList}
 use Rattle.tariff.specs.LineLists.{passes, line_list_check, listed}
-use Rattle.schedule.proofs.Greatest.{all_within}
 use Rattle.schedule.proofs.Scan.{answer_in, answer_out}
-
--- the lines seen so far, and then all
-pub within_all : (ls : List Line) → AllByRecursion (λ l. within_limits l ≡ true) ls → all_within_limits ls ≡ true
-within_all [] h = refl
-within_all (l ∷ ls) h = and_from (within_limits l) (all_within_limits ls) h.0 (within_all ls h.1)
-
--- one line beyond the limits spoils the list
-pub not_all_within : (ls : List Line) (i : ℕ) (d : Line) → i < length ls → within_limits (get_or ls i d) ≡ false → all_within_limits ls ≡ false
-not_all_within ls i d k h =
-    elim (all_within_limits ls) as (λ t. all_within_limits ls ≡ t → t ≡ false) [ true ↦ λ e. sym (All-get_or (λ l. within_limits l ≡ true) ls i d k (all_within ls e)) ∙ h | false ↦ λ e. refl ] refl
 
 -- a list of one line answers it everywhere
 pub answer_only : (d : ℤ) (m : ℕ) (x : Line) → answer d m (x ∷ []) ≡ x

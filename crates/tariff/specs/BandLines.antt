@@ -1,18 +1,26 @@
 -- The lines of a ladder, and that they are a schedule. Assumes nothing.
-use Rattle.std.specs.Prelude.{◌≡◌, ℕ, zero, suc, ◌+◌, ◌-◌, ◌*◌, ◌≤◌, Bool, true, ◌&&◌, List, [], ◌∷◌, ◌++◌, pos, neg_ℤ, nat_le, unsigned_abs, refl}
+use Rattle.std.specs.Prelude.{◌≡◌, ℕ, ◌+◌, ◌-◌, ◌*◌, ◌≤◌, Bool, true, ◌&&◌, List, [], ◌∷◌, ◌++◌, pos, neg_ℤ, nat_le, unsigned_abs, refl}
 use Rattle.std.proofs.Common.{mul-le-mul, mul-le-mul_left, le_trans, arith}
 use Rattle.std.proofs.lemmas.Bool.{le-leb, leb-true, and_parts, and_from}
 use Rattle.schedule.specs.declared.line.Line.{Line}
 use Rattle.schedule.specs.Lines.{line, within_limits}
 use Rattle.schedule.specs.Schedules.{all_within_limits, is_schedule}
+use Rattle.schedule.proofs.Products.{nat_abs_neg}
 use Rattle.tariff.specs.declared.ladder.Bands.{Bands}
 use Rattle.tariff.specs.declared.ladder.Bands.TheVariants.{Six, Four}
+use Rattle.tariff.specs.declared.ladder.BandLine.{BandLine}
+use Rattle.tariff.specs.declared.ladder.BandLine.TheVariants.{Short, Long}
 use Rattle.tariff.specs.Joined.{all_joined}
 use Rattle.tariff.specs.Tables.{Band, short_bands, long_bands}
 
 -- a band's line: 40 × percentage × price of the difference, less price × offset of the base
 abbrev pub band_line : ℕ → ℕ → ℕ → Line
 band_line price percent offset = line (pos (40 * percent * price)) (neg_ℤ (pos (price * offset)))
+
+-- a line at a ladder's prices: short gas at the average, long gas at the lowest
+abbrev pub line_of : ℕ → ℕ → BandLine → Line
+line_of average lowest (Short percent offset) = band_line average percent offset
+line_of average lowest (Long percent offset) = band_line lowest percent offset
 
 -- by how much two percentages differ
 abbrev pub change : ℕ → ℕ → ℕ
@@ -38,10 +46,6 @@ abbrev small : ℕ → ℕ → List Band → Bool
 small before offset [] = true
 small before offset (b ∷ bs) =
     (nat_le b.percent 15 && nat_le (offset_of before offset b) 36) && small b.percent (offset_of before offset b) bs
-
-nat_abs_neg : (n : ℕ) → unsigned_abs (neg_ℤ (pos n)) ≡ n
-nat_abs_neg zero = refl
-nat_abs_neg (suc n) = refl
 
 within : (price percent offset : ℕ) → price ≤ 30000 → percent ≤ 15 → offset ≤ 36 → within_limits (band_line price percent offset) ≡ true
 within price percent offset p q r =

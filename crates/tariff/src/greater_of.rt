@@ -1,7 +1,7 @@
 ghost use Rattle.std.specs.Prelude.{◌++◌};
 ghost use Rattle.tariff.specs.Joined.{joined_lawful};
 
-use schedule::{Line, Schedule, is_in_range};
+use schedule::{Gas, Line, Schedule};
 
 // Charges whichever of two schedules is greater. Its lines are the first one's followed by the second one's.
 #[derive(Drop)]
@@ -15,11 +15,11 @@ impl<P: Schedule, Q: Schedule> Schedule for GreaterOf<P, Q> {
 
     ghost lawful = { λ s. joined_lawful (P.Schedule.lines s.first) (Q.Schedule.lines s.second) (P.Schedule.lawful s.first) (Q.Schedule.lawful s.second) };
 
-    fn line_at(&self, difference: i64, base: u64) -> Line {
-        let first = self.first.line_at(difference, base);
-        if !is_in_range(difference, base) {
+    fn line_at(&self, gas: Gas) -> Line {
+        let first = self.first.line_at(gas);
+        if !gas.is_in_range() {
             return first;
         }
-        first.or_greater(self.second.line_at(difference, base), difference, base)
+        first.or_greater(self.second.line_at(gas), gas)
     }
 }

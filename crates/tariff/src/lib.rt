@@ -2,6 +2,7 @@
 // and the greater of any two.
 #![tactic(auto)]
 
+mod formula;
 mod greater_of;
 mod ladder;
 mod line_list;
@@ -9,6 +10,7 @@ mod overrun;
 mod refusal;
 mod tolerance;
 
+pub use formula::Formula;
 pub use greater_of::GreaterOf;
 pub use ladder::{Bands, Ladder};
 pub use line_list::LineList;

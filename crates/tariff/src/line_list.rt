@@ -3,13 +3,13 @@ ghost use Rattle.schedule.specs.Schedules.{all_within_limits};
 ghost use Rattle.tariff.specs.LineLists.{listed, listed_lawful, line_list_check};
 
 use super::refusal::Refusal;
-use schedule::{Line, Schedule, first_greatest};
+use schedule::{Gas, Line, Schedule, first_greatest};
 
 // the most lines that a list may have
 const MOST_LINES: usize = 64;
 
 // A supplier's own lines, in memory that it lends for reading. A list that fails the check means the one line (0, 0).
-#[derive(Clone, Copy)]
+#[derive(Clone, Copy, PartialEq, Eq, Debug)]
 pub struct LineList<'a> {
     pub given: &'a [Line],
 }
@@ -18,12 +18,7 @@ pub struct LineList<'a> {
 fn all_within_limits(lines: &[Line]) -> bool
     ensures { result ≡ all_within_limits lines.now }
 {
-    for line in lines {
-        if !line.is_within_limits() {
-            return false;
-        }
-    }
-    true
+    lines.iter().all(|line| line.is_within_limits())
 }
 
 impl LineList<'_> {
@@ -44,10 +39,10 @@ impl Schedule for LineList<'_> {
 
     ghost lawful = { λ s. listed_lawful s.given.now };
 
-    fn line_at(&self, difference: i64, base: u64) -> Line {
+    fn line_at(&self, gas: Gas) -> Line {
         match self.check() {
-            Ok(()) => first_greatest(self.given, difference, base),
-            Err(_) => Line { a: 0, b: 0 },
+            Ok(()) => first_greatest(self.given, gas),
+            Err(_) => Line::GIVES_NOTHING,
         }
     }
 }

@@ -1,17 +1,19 @@
-ghost use Rattle.std.specs.Prelude.{◌≡◌};
-ghost use Rattle.tariff.specs.Refusals.{number};
+ghost use Rattle.std.specs.Prelude.{◌≡◌, Some};
+ghost use Rattle.tariff.specs.Refusals.{number, reason};
 
-// Why a ladder or a list of lines is refused.
+use std::fmt;
+
+// Why a ladder or a list of lines is refused, and the number of each refusal.
 #[derive(Clone, Copy, PartialEq, Eq, Debug)]
 pub enum Refusal {
     // a price above 30,000
-    PriceTooHigh,
+    PriceTooHigh = 2,
     // the lowest price above the average
-    LowestAboveAverage,
+    LowestAboveAverage = 3,
     // not 1 to 64 lines, or a line beyond the limits
-    BadLineList,
+    BadLineList = 4,
     // neither six bands nor four
-    BadBandCount,
+    BadBandCount = 46,
 }
 
 impl Refusal {
@@ -19,11 +21,19 @@ impl Refusal {
     pub fn number(self) -> u8
         ensures { result ≡ number self }
     {
-        match self {
-            Refusal::PriceTooHigh => 2,
-            Refusal::LowestAboveAverage => 3,
-            Refusal::BadLineList => 4,
-            Refusal::BadBandCount => 46,
-        }
+        self as u8
+    }
+}
+
+impl fmt::Display for Refusal {
+    ghost output = { λ refusal. Some (reason refusal) };
+
+    fn fmt<W: fmt::Write>(&self, f: &mut fmt::Formatter<W>) -> fmt::Result {
+        f.write_str(match self {
+            Refusal::PriceTooHigh => "a price is above 30000",
+            Refusal::LowestAboveAverage => "the lowest price is above the average",
+            Refusal::BadLineList => "the list of lines is not a schedule",
+            Refusal::BadBandCount => "there are ladders of 6 and of 4 bands only",
+        })
     }
 }

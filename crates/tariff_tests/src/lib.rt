@@ -3,10 +3,10 @@
 
 ghost use Rattle.tariff_tests.specs.Standing.{standing_lines, standing_lawful};
 
-use schedule::{Line, Schedule, first_greatest};
+use schedule::{Gas, Line, Schedule, first_greatest};
 
 // A schedule that the product does not have.
-#[derive(Clone, Copy)]
+#[derive(Clone, Copy, PartialEq, Eq, Debug)]
 pub struct Standing;
 
 impl Schedule for Standing {
@@ -14,13 +14,13 @@ impl Schedule for Standing {
 
     ghost lawful = { λ _. standing_lawful };
 
-    fn line_at(&self, difference: i64, base: u64) -> Line {
+    fn line_at(&self, gas: Gas) -> Line {
         let lines = [
             Line { a: 3, b: -1 },
             Line { a: -3, b: 0 },
             Line { a: 3, b: -1 },
         ];
-        first_greatest(&lines, difference, base)
+        first_greatest(&lines, gas)
     }
 }
 
@@ -28,21 +28,21 @@ impl Schedule for Standing {
 mod tests {
     use super::*;
     use schedule::charge_at;
-    use tariff::{GreaterOf, Ladder, LineList, Overrun, Refusal, Tolerance};
+    use tariff::{Formula, GreaterOf, Ladder, LineList, Overrun, Refusal, Tolerance};
 
-    // The number by which a ladder is refused, or 0.
-    fn refused(bands: u8, average: u32, lowest: u32) -> u8 {
-        match Ladder::new(bands, average, lowest) {
-            Ok(_) => 0,
-            Err(refusal) => refusal.number(),
-        }
+    fn gas(difference: i64, base: u64) -> Gas {
+        Gas { difference, base }
+    }
+
+    // The number by which a ladder is refused.
+    fn refused(bands: u8, average: u32, lowest: u32) -> Option<u8> {
+        let refusal = Ladder::new(bands, average, lowest).err()?;
+        Some(refusal.number())
     }
 
     fn cash_out(bands: u8, average: u32, lowest: u32, difference: i64, base: u64) -> Option<i128> {
-        match Ladder::new(bands, average, lowest) {
-            Ok(ladder) => Some(ladder.charge(difference, base).grains),
-            Err(_) => None,
-        }
+        let ladder = Ladder::new(bands, average, lowest).ok()?;
+        Some(ladder.charge(gas(difference, base)).grains)
     }
 
     // Each band edge of 1,000 therms from both sides, in therms, with the charge in millions of grains.
@@ -86,11 +86,11 @@ mod tests {
 
     #[test]
     fn prices(rt: HostRuntime) {
-        assert_eq!(rt; refused(5, 30_001, 30_002), 46);
-        assert_eq!(rt; refused(6, 30_001, 30_002), 2);
-        assert_eq!(rt; refused(4, 29_999, 30_001), 2);
-        assert_eq!(rt; refused(4, 4_000, 4_001), 3);
-        assert_eq!(rt; refused(4, 0, 0), 0);
+        assert_eq!(rt; refused(5, 30_001, 30_002), Some(46));
+        assert_eq!(rt; refused(6, 30_001, 30_002), Some(2));
+        assert_eq!(rt; refused(4, 29_999, 30_001), Some(2));
+        assert_eq!(rt; refused(4, 4_000, 4_001), Some(3));
+        assert_eq!(rt; refused(4, 0, 0), None);
         assert_eq!(rt; cash_out(6, 0, 0, 62_000_000_000, 0), Some(0));
         assert_eq!(rt; cash_out(6, 30_000, 0, -1_000, 1_000_000), Some(0));
         assert_eq!(rt;
@@ -108,35 +108,50 @@ mod tests {
     #[test]
     fn range(rt: HostRuntime) {
         assert_eq!(rt;
-            Tolerance.line_at(62_000_000_000, 0),
+            Tolerance.line_at(gas(62_000_000_000, 0)),
             Line {
                 a: 100_000,
                 b: -10_000,
             }
         );
         assert_eq!(rt;
-            Tolerance.line_at(-62_000_000_000, 62_000_000_000),
+            Tolerance.line_at(gas(-62_000_000_000, 62_000_000_000)),
             Line {
                 a: -100_000,
                 b: -10_000,
             }
         );
-        assert_eq!(rt; Tolerance.line_at(62_000_000_001, 0), Line { a: 0, b: 0 });
-        assert_eq!(rt; Tolerance.line_at(-62_000_000_001, 0), Line { a: 0, b: 0 });
         assert_eq!(rt;
-            Overrun.line_at(62_000_000_000, 62_000_000_001),
+            Tolerance.line_at(gas(62_000_000_001, 0)),
+            Line { a: 0, b: 0 }
+        );
+        assert_eq!(rt;
+            Tolerance.line_at(gas(-62_000_000_001, 0)),
+            Line { a: 0, b: 0 }
+        );
+        assert_eq!(rt;
+            Overrun.line_at(gas(62_000_000_000, 62_000_000_001)),
             Line { a: 0, b: 0 }
         );
     }
 
     #[test]
     fn daily_charges(rt: HostRuntime) {
-        assert_eq!(rt; Tolerance.charge(100_000, 1_000_000).grains, 0);
-        assert_eq!(rt; Tolerance.charge(101_000, 1_000_000).grains, 100_000_000);
-        assert_eq!(rt; Tolerance.charge(-101_000, 1_000_000).grains, 100_000_000);
-        assert_eq!(rt; Overrun.charge(100_000, 1_000_000).grains, 0);
-        assert_eq!(rt; Overrun.charge(101_000, 1_000_000).grains, 12_000_000_000);
-        assert_eq!(rt; Overrun.charge(-500_000, 1_000_000).grains, 0);
+        assert_eq!(rt; Tolerance.charge(gas(100_000, 1_000_000)).grains, 0);
+        assert_eq!(rt;
+            Tolerance.charge(gas(101_000, 1_000_000)).grains,
+            100_000_000
+        );
+        assert_eq!(rt;
+            Tolerance.charge(gas(-101_000, 1_000_000)).grains,
+            100_000_000
+        );
+        assert_eq!(rt; Overrun.charge(gas(100_000, 1_000_000)).grains, 0);
+        assert_eq!(rt;
+            Overrun.charge(gas(101_000, 1_000_000)).grains,
+            12_000_000_000
+        );
+        assert_eq!(rt; Overrun.charge(gas(-500_000, 1_000_000)).grains, 0);
     }
 
     // Where lines give the same, the first of them answers.
@@ -148,13 +163,13 @@ mod tests {
             Line { a: 3, b: -2 },
         ];
         let list = LineList { given: &lines };
-        assert_eq!(rt; list.line_at(5, 5), Line { a: 1, b: 0 });
-        assert_eq!(rt; list.line_at(6, 5), Line { a: 3, b: -2 });
+        assert_eq!(rt; list.line_at(gas(5, 5)), Line { a: 1, b: 0 });
+        assert_eq!(rt; list.line_at(gas(6, 5)), Line { a: 3, b: -2 });
         let both = GreaterOf {
             first: Standing,
             second: list,
         };
-        assert_eq!(rt; both.line_at(1, 0), Line { a: 3, b: -1 });
+        assert_eq!(rt; both.line_at(gas(1, 0)), Line { a: 3, b: -1 });
     }
 
     fn passes(lines: &[Line]) -> bool {
@@ -185,7 +200,7 @@ mod tests {
         );
         let too_many = [Line { a: 5, b: 0 }; 65];
         assert_eq!(rt;
-            LineList { given: &too_many }.line_at(9, 9),
+            LineList { given: &too_many }.line_at(gas(9, 9)),
             Line { a: 0, b: 0 }
         );
     }
@@ -193,8 +208,8 @@ mod tests {
     // A schedule of another maker's, alone and piled on the product's.
     #[test]
     fn another_makers_schedule(rt: HostRuntime) {
-        assert_eq!(rt; charge_at(&Standing, 10, 4).grains, 26);
-        assert_eq!(rt; charge_at(&Standing, -10, 4).grains, 30);
+        assert_eq!(rt; charge_at(&Standing, gas(10, 4)).grains, 26);
+        assert_eq!(rt; charge_at(&Standing, gas(-10, 4)).grains, 30);
         let pile = GreaterOf {
             first: GreaterOf {
                 first: Standing,
@@ -202,8 +217,8 @@ mod tests {
             },
             second: Overrun,
         };
-        assert_eq!(rt; charge_at(&pile, -1, 0).grains, 100_000);
-        assert_eq!(rt; charge_at(&pile, 1, 0).grains, 12_000_000);
-        assert_eq!(rt; charge_at(&pile, 1, 10).grains, 0);
+        assert_eq!(rt; charge_at(&pile, gas(-1, 0)).grains, 100_000);
+        assert_eq!(rt; charge_at(&pile, gas(1, 0)).grains, 12_000_000);
+        assert_eq!(rt; charge_at(&pile, gas(1, 10)).grains, 0);
     }
 }

@@ -1,4 +1,4 @@
+pub mod Exactly
 pub mod Forms
 pub mod Peeled
-pub mod Places
 pub mod Spelled

@@ -1,5 +1,5 @@
--- What is wrong with a line where a word or a number was to come, or the end. Assumes nothing.
-use Rattle.std.specs.Prelude.{◌≡◌, ℕ, List, Err, Result}
+-- What is wrong with a line where a word or a number was to come, or the end, and what is printed of it. Assumes nothing.
+use Rattle.std.specs.Prelude.{◌≡◌, ℕ, List, ◌++◌, Err, Result, codes}
 use Rattle.wording.specs.declared.words.Fault.{Fault}
 use Rattle.wording.specs.declared.words.Fault.TheVariants.{Empty, UnknownRequest, Missing, NotANumber, Superfluous}
 use Rattle.wording.specs.Words.{NoWord, NextWord}
@@ -28,3 +28,11 @@ IsSuperfluous text (UnknownRequest word advice) = ⊥
 IsSuperfluous text (Missing missing) = ⊥
 IsSuperfluous text (NotANumber field word) = ⊥
 IsSuperfluous text (Superfluous word) = (rest : List ℕ) × NextWord text word.now rest
+
+-- what is printed of a fault
+abbrev pub fault_text : Fault → List ℕ
+fault_text Empty = codes "  an empty line asks for nothing"
+fault_text (UnknownRequest word advice) = codes "  '" ++ (word.now ++ (codes "' is no request" ++ advice.now))
+fault_text (Missing name) = codes "  " ++ (name.now ++ codes " is missing")
+fault_text (NotANumber name word) = codes "  '" ++ (word.now ++ (codes "' is no number for " ++ name.now))
+fault_text (Superfluous word) = codes "  '" ++ (word.now ++ codes "' does not belong here")

@@ -3,3 +3,4 @@ pub mod Words
 pub mod Faults
 pub mod Lines
 pub mod Dollars
+pub mod Amounts

@@ -1,53 +1,63 @@
 // Amounts of money, shown in dollars.
-ghost use Rattle.std.specs.Prelude.{◌≡◌, ◌+◌, ◌*◌, ◌^◌, ◌<◌, pos, Some, int_lt, unsigned_abs};
+ghost use Rattle.std.specs.Prelude.{◌≡◌, ◌*◌, ◌≤◌, Some};
 ghost use Rattle.std.specs.Fmt.{WritesOnOk};
 ghost use Rattle.wording.specs.Dollars.{places_of, sign_of, dollar_text};
+ghost use Rattle.wording.specs.Amounts.{IsExactly};
 
 use std::fmt;
 
-const GRAINS_PER_DOLLAR: u128 = 4_000_000_000;
-
-const CENTS_PER_DOLLAR: u128 = 100;
-
 // An amount of money: whole dollars, and a fraction in units of the eleventh decimal place, of which a grain is 25 and a
 // cent 1,000,000,000.
-#[derive(Clone, Copy)]
+#[derive(Clone, Copy, PartialEq, Eq, Debug)]
 pub struct Dollars {
+    // a flag beside the size: -$0.50 has 0 whole dollars, so that no signed number of them could carry the sign
     pub is_credit: bool,
     pub whole: u128,
     pub fraction: u64,
 }
 
-// The amount of so many grains, exactly.
-pub fn dollars_of(grains: i128) -> Dollars
-    ensures sign { result.is_credit ≡ int_lt grains (pos 0) }
-    ensures size { result.whole * 100000000000 + result.fraction ≡ 25 * unsigned_abs grains }
-    ensures below { result.fraction < 100000000000 }
+// An amount in grains, of which a dollar has 4,000,000,000. Grains and cents are two types, as each says its own unit where
+// it is made, which a number beside one type would not; one function, `dollars_of`, does the work of both.
+#[derive(Clone, Copy, PartialEq, Eq, Debug)]
+pub struct Grains(pub i128);
+
+// An amount in cents.
+#[derive(Clone, Copy, PartialEq, Eq, Debug)]
+pub struct Cents(pub i128);
+
+// The amount of so many units, of which so many make a dollar, and each is worth so many of the eleventh decimal place.
+fn dollars_of(units: i128, to_the_dollar: u128, worth: u64) -> Dollars
+    requires { worth * to_the_dollar ≡ 100000000000 }
+    ensures { IsExactly worth units result }
 {
-    let size = grains.unsigned_abs();
+    let size = units.unsigned_abs();
     Dollars {
-        is_credit: grains < 0,
-        whole: size / GRAINS_PER_DOLLAR,
-        fraction: (size % GRAINS_PER_DOLLAR) as u64 * 25,
+        is_credit: units < 0,
+        whole: size / to_the_dollar,
+        fraction: (size % to_the_dollar) as u64 * worth,
     }
 }
 
-// The amount of so many cents, exactly.
-pub fn dollars_of_cents(cents: i128) -> Dollars
-    ensures sign { result.is_credit ≡ int_lt cents (pos 0) }
-    ensures size { result.whole * 100000000000 + result.fraction ≡ 1000000000 * unsigned_abs cents }
-    ensures below { result.fraction < 100000000000 }
-{
-    let size = cents.unsigned_abs();
-    Dollars {
-        is_credit: cents < 0,
-        whole: size / CENTS_PER_DOLLAR,
-        fraction: (size % CENTS_PER_DOLLAR) as u64 * 1_000_000_000,
+// Exactly.
+impl From<Grains> for Dollars {
+    ghost from_gives = { λ grains dollars. IsExactly 25 grains.0 dollars };
+
+    fn from(grains: Grains) -> Dollars {
+        dollars_of(grains.0, 4_000_000_000, 25)
+    }
+}
+
+// Exactly.
+impl From<Cents> for Dollars {
+    ghost from_gives = { λ cents dollars. IsExactly 1000000000 cents.0 dollars };
+
+    fn from(cents: Cents) -> Dollars {
+        dollars_of(cents.0, 100, 1_000_000_000)
     }
 }
 
 // The digits of a fraction of a cent.
-#[derive(Clone, Copy)]
+#[derive(Clone, Copy, PartialEq, Eq, Debug)]
 struct Places {
     rest: u64,
 }
@@ -59,30 +69,27 @@ fn sign_of(is_credit: bool) -> &'static str
     if is_credit { "-" } else { "" }
 }
 
-// The digits of so many decimal places, of which the one before the first is worth `unit`: none behind the last that is not 0.
-fn write_places<W: fmt::Write>(
-    places: u8,
-    unit: u64,
-    rest: u64,
-    f: &mut fmt::Formatter<W>,
-) -> fmt::Result
-    requires { unit ≡ 10 ^ places }
+// The digits of so many decimal places, of a rest in units of the last of them: none behind the last that is not 0. It
+// calls itself place by place, as `places_of` does: a loop would need a running rest, a break and an invariant, and a
+// format writes a fixed number of places, zeros with them.
+fn write_places<W: fmt::Write>(places: u32, rest: u64, f: &mut fmt::Formatter<W>) -> fmt::Result
+    requires { places ≤ 9 }
     ensures { WritesOnOk W.Write.write_str_gives f.old result (places_of places rest) f.new }
 {
     if places == 0 || rest == 0 {
         return Ok(());
     }
-    let unit = unit / 10;
+    let unit = 10u64.pow(places - 1);
     let digit = rest / unit;
     write!(f, "{digit}")?;
-    write_places(places - 1, unit, rest % unit, f)
+    write_places(places - 1, rest % unit, f)
 }
 
 impl fmt::Display for Places {
     ghost output = { λ p. Some (places_of 9 p.rest) };
 
     fn fmt<W: fmt::Write>(&self, f: &mut fmt::Formatter<W>) -> fmt::Result {
-        write_places(9, 1_000_000_000, self.rest, f)
+        write_places(9, self.rest, f)
     }
 }
 

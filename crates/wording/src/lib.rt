@@ -4,5 +4,5 @@
 mod dollars;
 mod words;
 
-pub use dollars::{Dollars, dollars_of, dollars_of_cents};
-pub use words::{Fault, end, next_number, next_word};
+pub use dollars::{Cents, Dollars, Grains};
+pub use words::{Fault, LineReader};

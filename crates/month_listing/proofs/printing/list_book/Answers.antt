@@ -26,8 +26,7 @@ returns c =
     ∙ ap (λ (xs : List Bill). closed_listing days (take most_members xs) total) c.bills.ensures
     ∙ closing month (handed_out s) settled days total few c.days.ensures c.total_cents.ensures ∙ ap printed_month (sym made) in
     record {
-      block = c.write_closed.ensures.block ∙ ap (λ (t : List ℕ). written 0 t c.args.block.now) text;
-      end = c.write_closed.ensures.end ∙ ap (λ (t : List ℕ). length t) text;
-      fits = c.write_closed.ensures.fits;
+      block = c.write-2.ensures.block ∙ ap (λ (t : List ℕ). written 0 t c.args.block.now) text;
+      end = c.write-2.ensures.end ∙ ap (λ (t : List ℕ). length t) text;
       fair = subst Fair (sym made) (fairly month (handed_out s) settled);
     }

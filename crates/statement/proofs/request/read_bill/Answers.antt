@@ -1,65 +1,57 @@
 use Rattle.std.proofs.Common.{[], ◌∷◌, codes, refl, w64}
-use Rattle.std.proofs.lemmas.Result.{err_from_is_err_and}
 use Rattle.wording.proofs.Forms.{passed, no_number, no_signed, not_ended}
 use Rattle.wording.proofs.Spelled.{passed_on}
-use Rattle.statement.proofs.Spelled.{no_fields}
+use Rattle.statement.proofs.Spelled.{refused}
 use Rattle.statement.proofs.request.read_bill.Goals as goal
 
 pub returns-in_err-member : goal.returns-in_err-member
 returns-in_err-member c =
-    let p = err_from_is_err_and c.from_residual.result c.from_residual.ensures.1 in
-    rw p.1 (no_fields (codes "bill") _ (no_number 32 _ _ _ c.in_err-member.ensures))
+    refused _ (codes "bill") c.from_residual.result c.from_residual.ensures.1 (no_number 32 _ _ _ c.in_err-member.ensures)
 
 pub returns-in_err-sheet : goal.returns-in_err-sheet
 returns-in_err-sheet c =
-    let p = err_from_is_err_and c.from_residual-in_err-sheet.result c.from_residual-in_err-sheet.ensures.1 in
     let m = c.in_ok-member.ensures in
-    rw p.1 (no_fields (codes "bill") _ (passed m.1 (no_number 32 _ _ _ c.in_err-sheet.ensures)))
+    refused _ (codes "bill") c.from_residual-in_err-sheet.result c.from_residual-in_err-sheet.ensures.1 (passed m.1 (no_number 32 _ _ _ c.in_err-sheet.ensures))
 
 pub returns-in_err-days : goal.returns-in_err-days
 returns-in_err-days c =
-    let p = err_from_is_err_and c.from_residual-in_err-days.result c.from_residual-in_err-days.ensures.1 in
     let m = c.in_ok-member.ensures in
     let s = c.in_ok-sheet.ensures in
-    rw p.1 (no_fields (codes "bill") _ (passed m.1 (passed s.1 (no_number 8 _ _ _ c.in_err-days.ensures))))
+    refused _ (codes "bill") c.from_residual-in_err-days.result c.from_residual-in_err-days.ensures.1 (passed m.1 (passed s.1 (no_number 8 _ _ _ c.in_err-days.ensures)))
 
 pub returns-in_err-served : goal.returns-in_err-served
 returns-in_err-served c =
-    let p = err_from_is_err_and c.from_residual-in_err-served.result c.from_residual-in_err-served.ensures.1 in
     let m = c.in_ok-member.ensures in
     let s = c.in_ok-sheet.ensures in
     let d = c.in_ok-days.ensures in
-    rw p.1 (no_fields (codes "bill") _ (passed m.1 (passed s.1 (passed d.1 (no_number 8 _ _ _ c.in_err-served.ensures)))))
+    refused _ (codes "bill") c.from_residual-in_err-served.result c.from_residual-in_err-served.ensures.1 (passed m.1 (passed s.1 (passed d.1 (no_number 8 _ _ _ c.in_err-served.ensures))))
 
 pub returns-in_err-therms : goal.returns-in_err-therms
 returns-in_err-therms c =
-    let p = err_from_is_err_and c.from_residual-in_err-therms.result c.from_residual-in_err-therms.ensures.1 in
     let m = c.in_ok-member.ensures in
     let s = c.in_ok-sheet.ensures in
     let d = c.in_ok-days.ensures in
     let v = c.in_ok-served.ensures in
-    rw p.1 (no_fields (codes "bill") _ (passed m.1 (passed s.1 (passed d.1 (passed v.1 (no_number 32 _ _ _ c.in_err-therms.ensures))))))
+    refused _ (codes "bill") c.from_residual-in_err-therms.result c.from_residual-in_err-therms.ensures.1 (passed m.1 (passed s.1 (passed d.1 (passed v.1 (no_number 32 _ _ _ c.in_err-therms.ensures)))))
 
 pub returns-in_err-pool_cents : goal.returns-in_err-pool_cents
 returns-in_err-pool_cents c =
-    let p = err_from_is_err_and c.from_residual-in_err-pool_cents.result c.from_residual-in_err-pool_cents.ensures.1 in
     let m = c.in_ok-member.ensures in
     let s = c.in_ok-sheet.ensures in
     let d = c.in_ok-days.ensures in
     let v = c.in_ok-served.ensures in
     let t = c.in_ok-therms.ensures in
-    rw p.1 (no_fields (codes "bill") _ (passed m.1 (passed s.1 (passed d.1 (passed v.1 (passed t.1 (no_signed w64 _ _ _ c.in_err-pool_cents.ensures)))))))
+    refused _ (codes "bill") c.from_residual-in_err-pool_cents.result c.from_residual-in_err-pool_cents.ensures.1 (passed m.1 (passed s.1 (passed d.1 (passed v.1 (passed t.1 (no_signed w64 _ _ _ c.in_err-pool_cents.ensures))))))
 
 pub returns-in_err-end : goal.returns-in_err-end
 returns-in_err-end c =
-    let p = err_from_is_err_and c.from_residual-in_err-end.result c.from_residual-in_err-end.ensures.1 in
     let m = c.in_ok-member.ensures in
     let s = c.in_ok-sheet.ensures in
     let d = c.in_ok-days.ensures in
     let v = c.in_ok-served.ensures in
     let t = c.in_ok-therms.ensures in
     let x = c.in_ok-pool_cents.ensures in
-    rw p.1 (no_fields (codes "bill") _ (passed m.1 (passed s.1 (passed d.1 (passed v.1 (passed t.1 (passed x.1 (not_ended _ c.in_err-end.ensures))))))))
+    refused _ (codes "bill") c.from_residual-in_err-end.result c.from_residual-in_err-end.ensures.1 (passed m.1 (passed s.1 (passed d.1 (passed v.1 (passed t.1 (passed x.1 (not_ended _ c.in_err-end.ensures)))))))
 
 pub returns : goal.returns
 returns c =

@@ -1,19 +1,16 @@
 use Rattle.std.proofs.Common.{[], ◌∷◌, codes, refl}
-use Rattle.std.proofs.lemmas.Result.{err_from_is_err_and}
 use Rattle.wording.proofs.Forms.{passed, no_number, not_ended}
-use Rattle.statement.proofs.Spelled.{no_fields}
+use Rattle.statement.proofs.Spelled.{refused}
 use Rattle.statement.proofs.request.read_member.Goals as goal
 
 pub returns-in_err-number : goal.returns-in_err-number
 returns-in_err-number c =
-    let p = err_from_is_err_and c.from_residual.result c.from_residual.ensures.1 in
-    rw p.1 (no_fields (codes "member") _ (no_number 32 _ _ _ c.in_err-number.ensures))
+    refused _ (codes "member") c.from_residual.result c.from_residual.ensures.1 (no_number 32 _ _ _ c.in_err-number.ensures)
 
 pub returns-in_err-end : goal.returns-in_err-end
 returns-in_err-end c =
-    let p = err_from_is_err_and c.from_residual-in_err-end.result c.from_residual-in_err-end.ensures.1 in
     let n = c.in_ok-number.ensures in
-    rw p.1 (no_fields (codes "member") _ (passed n.1 (not_ended _ c.in_err-end.ensures)))
+    refused _ (codes "member") c.from_residual-in_err-end.result c.from_residual-in_err-end.ensures.1 (passed n.1 (not_ended _ c.in_err-end.ensures))
 
 pub returns : goal.returns
 returns c =

@@ -1,26 +1,22 @@
 use Rattle.std.proofs.Common.{◌∷◌, codes, refl}
-use Rattle.std.proofs.lemmas.Result.{err_from_is_err_and}
 use Rattle.wording.proofs.Forms.{passed, no_number}
-use Rattle.statement.proofs.Spelled.{no_fields, blocks_refuted}
+use Rattle.statement.proofs.Spelled.{refused, blocks_refuted}
 use Rattle.statement.proofs.request.read_sheet.Goals as goal
 
 pub returns-in_err-number : goal.returns-in_err-number
 returns-in_err-number c =
-    let p = err_from_is_err_and c.from_residual.result c.from_residual.ensures.1 in
-    rw p.1 (no_fields (codes "sheet") _ (no_number 32 _ _ _ c.in_err-number.ensures))
+    refused _ (codes "sheet") c.from_residual.result c.from_residual.ensures.1 (no_number 32 _ _ _ c.in_err-number.ensures)
 
 pub returns-in_err-monthly_cents : goal.returns-in_err-monthly_cents
 returns-in_err-monthly_cents c =
-    let p = err_from_is_err_and c.from_residual-in_err-monthly_cents.result c.from_residual-in_err-monthly_cents.ensures.1 in
     let n = c.in_ok-number.ensures in
-    rw p.1 (no_fields (codes "sheet") _ (passed n.1 (no_number 32 _ _ _ c.in_err-monthly_cents.ensures)))
+    refused _ (codes "sheet") c.from_residual-in_err-monthly_cents.result c.from_residual-in_err-monthly_cents.ensures.1 (passed n.1 (no_number 32 _ _ _ c.in_err-monthly_cents.ensures))
 
 pub returns-in_err-blocks : goal.returns-in_err-blocks
 returns-in_err-blocks c =
-    let p = err_from_is_err_and c.from_residual-in_err-blocks.result c.from_residual-in_err-blocks.ensures.1 in
     let n = c.in_ok-number.ensures in
     let m = c.in_ok-monthly_cents.ensures in
-    rw p.1 (no_fields (codes "sheet") _ (passed n.1 (passed m.1 (blocks_refuted _ c.in_err-blocks.ensures))))
+    refused _ (codes "sheet") c.from_residual-in_err-blocks.result c.from_residual-in_err-blocks.ensures.1 (passed n.1 (passed m.1 (blocks_refuted _ c.in_err-blocks.ensures)))
 
 pub returns : goal.returns
 returns c =

@@ -1,112 +1,80 @@
-use Rattle.std.proofs.Common.{◌≡◌, ◌+◌, ◌-◌, ◌<◌, ◌≤◌, ◌∷◌, ◌++◌, length, take, drop, set, is_ok, sym, refl, ap, ◌∙◌, arith}
-use Rattle.std.specs.List.{between, insert}
-use Rattle.std.proofs.lemmas.List.{length-take-le, length-set}
-use Rattle.billing.specs.Refusals.{unless, changed_unless}
-use Rattle.billing.specs.Places.{place_before}
-use Rattle.billing.specs.Keepings.{found, kept, lent, room, in_order, after_adding, over}
-use Rattle.billing.proofs.Memory.{over_front, stays, refused_used, refused_full, not_refused}
-use Rattle.billing.proofs.Placed.{place_le, in_order_lem}
-use Rattle.billing.proofs.Rise.{adding_rises}
-use Rattle.billing.proofs.Shift.{shifted, shift_none, shift_turn, write_at, front_inserted, length-shifted, back_inserted}
+use Rattle.std.proofs.Common.{◌≡◌, ◌+◌, ◌-◌, ◌<◌, ◌≤◌, ◌++◌, length, take, drop, set, leb, true, false, is_ok, Err, sym, refl, ap, ◌∙◌, subst, arith, le-leb}
+use borrow.Author.Tests.{lt-leb}
+use borrow.Rule.Slice.PartMut.{put_mid}
+use Rattle.std.specs.List.{insert}
+use Rattle.std.proofs.lemmas.List.{length-take-le}
+use Rattle.billing.specs.declared.refusals.Refusal.TheVariants.{NoSuchNumber}
+use Rattle.billing.specs.Order.{Rising}
+use Rattle.billing.specs.Places.{IsGapFor}
+use Rattle.billing.specs.Keepings.{found, kept, lent, room, after_adding}
+use Rattle.billing.proofs.Search.{found_at, none_found, in_order_at, insert_rises}
+use Rattle.billing.proofs.Shift.{turned_in, front_of, back_of}
+use Rattle.billing.proofs.Memory.{leaves_by, stays}
 use Rattle.billing.proofs.keeping.Keeping.add.Given as given
 use Rattle.billing.proofs.keeping.Keeping.add.Goals as goal
-use Rattle.billing.proofs.keeping.Keeping.add.Goals.{After-place_for-place, After-is_ok}
+use Rattle.billing.proofs.keeping.Keeping.add.Goals.{In_default, In-Err, After-rotate_right}
 
--- whether the number is in use, as the search told
-used : (g : given.Over) (c : After-is_ok g) → is_ok (found g.R.Numbered.numbered (g.R.Numbered.numbered c.args.newcomer) (kept c.args.self.now)) ≡ c.is_ok.result
-used g c =
-    ap (λ n. is_ok (found g.R.Numbered.numbered n (kept c.args.self.now))) (sym c.number-number.ensures) ∙ ap is_ok (sym c.find.ensures) ∙ sym c.is_ok.ensures.value
+-- a record has the number
+used : (g : given.Over) (c : In_default g) → is_ok (found g.R.Numbered.numbered (g.R.Numbered.numbered c.args.newcomer) (kept c.args.self.now)) ≡ true
+used g c = ap is_ok (found_at g.R.Numbered.numbered (g.R.Numbered.numbered c.args.newcomer) (kept c.args.self.now) c.in_default.field-0 c.args.newcomer c.args.self.now.rises (rw (← c.number.ensures) c.in_default.ensures.found))
 
-inside : (g : given.Over) (c : After-place_for-place g) → c.args.self.now.len < room c.args.self.now
-inside g c = omega (arith, c.args.self.now.fits, c.if-len-self.false)
+pub returns-in_default-clause-answer : goal.returns-in_default-clause-answer
+returns-in_default-clause-answer g c = rw (used g c)
 
-many : (g : given.Over) (c : After-place_for-place g) → length (kept c.args.self.now) ≡ c.args.self.now.len
+pub returns-in_default-clause-leaves : goal.returns-in_default-clause-leaves
+returns-in_default-clause-leaves g c = stays c.args.self.now _ (rw (used g c))
+
+-- no record has it, and there is a gap for it
+gap : (g : given.Over) (c : In-Err g) → IsGapFor g.R.Numbered.numbered (g.R.Numbered.numbered c.args.newcomer) (kept c.args.self.now) c.in-Err.place
+gap g c = rw (← c.number.ensures) c.in-Err.ensures.absent
+
+unused : (g : given.Over) (c : In-Err g) → found g.R.Numbered.numbered (g.R.Numbered.numbered c.args.newcomer) (kept c.args.self.now) ≡ Err NoSuchNumber
+unused g c = none_found g.R.Numbered.numbered _ _ _ (gap g c)
+
+many : (g : given.Over) (c : In-Err g) → length (kept c.args.self.now) ≡ c.args.self.now.len
 many g c = length-take-le c.args.self.now.len (lent c.args.self.now) c.args.self.now.fits
 
-placed : (g : given.Over) (c : After-place_for-place g) → c.place_for-place.result ≡ place_before g.R.Numbered.numbered (g.R.Numbered.numbered c.args.newcomer) (kept c.args.self.now)
-placed g c =
-    c.place_for-place.ensures ∙ ap (λ n. place_before g.R.Numbered.numbered n c.records.result.now) c.number-number.ensures ∙ ap (place_before g.R.Numbered.numbered (g.R.Numbered.numbered c.args.newcomer)) c.records.ensures
+pub returns-then-len-self-clause-answer : goal.returns-then-len-self-clause-answer
+returns-then-len-self-clause-answer g c =
+    let d = (goal.at.returns-then-len-self-clause-answer g c).In-Err in
+    let full = le-leb (room c.args.self.now) (length (kept c.args.self.now)) (omega (arith, many g d, c.if-len-self.true)) in
+    rw (unused g d, full)
 
-pub loop-i-init : goal.loop-i-init
-loop-i-init g c =
-    (omega (arith, placed g c, many g c, place_le g.R.Numbered.numbered (g.R.Numbered.numbered c.args.newcomer) (kept c.args.self.now)), omega arith, refl, shift_none c.args.self.now.len (lent c.args.self.now) (inside g c), refl)
+-- after the rotation the newcomer stands in the gap
+module _ (g : given.Over) (c : After-rotate_right g) (h : IsGapFor g.R.Numbered.numbered (g.R.Numbered.numbered c.args.newcomer) (kept c.args.self.now) c.in-Err.place) where
+  inside : c.args.self.now.len < room c.args.self.now
+  inside = omega (arith, c.args.self.now.fits, c.if-len-self.false)
 
-pub bounds-self-i-in-loop-i : goal.bounds-self-i-in-loop-i
-bounds-self-i-in-loop-i g c =
-    let r = inside g (goal.at.bounds-self-i-in-loop-i g c).After-place_for-place in
-    let e : length c.loop-i.self.slots.now ≡ room c.args.self.now = ap length c.loop-i.invariant.3 ∙ length-shifted c.args.self.now.len (lent c.args.self.now) r c.loop-i.i c.loop-i.invariant.1 in
-    let h : c.loop-i.i < length c.loop-i.self.slots.now = omega (arith, c.loop-i.invariant.1) in
-    h
+  low : c.in-Err.place ≤ c.args.self.now.len
+  low = omega (arith, h.in_range, length-take-le c.args.self.now.len (lent c.args.self.now) c.args.self.now.fits)
 
-pub loop-i-preserved : goal.loop-i-preserved
-loop-i-preserved g c =
-    let r = inside g (goal.at.loop-i-preserved g c).After-place_for-place in (
-      omega (arith, c.loop-i.invariant.0, c.loop-i-test.true),
-      omega (arith, c.loop-i.invariant.1),
-      c.loop-i.invariant.2,
-      shift_turn c.args.self.now.len (lent c.args.self.now) r c.loop-i.i (c.loop-i.i - 1) c.index-self-i.result c.loop-i.self.slots.now (omega (arith, c.loop-i.invariant.1, c.loop-i-test.true)) (omega (arith, c.loop-i-test.true)) c.loop-i.invariant.3,
-      c.loop-i.invariant.4,
-    )
+  put : put_mid c.in-Err.place (c.args.self.now.len + 1 - c.in-Err.place) (set (lent c.args.self.now) c.args.self.now.len c.args.newcomer) c.rotate_right.new.self ≡ insert (kept c.args.self.now) c.in-Err.place c.args.newcomer ++ drop (c.args.self.now.len + 1) (lent c.args.self.now)
+  put = rw c.rotate_right.ensures.after (turned_in c.in-Err.place c.args.self.now.len (lent c.args.self.now) c.args.newcomer low inside)
 
-pub bounds-self-place : goal.bounds-self-place
-bounds-self-place g c =
-    let r = inside g (goal.at.bounds-self-place g c).After-place_for-place in
-    let e : length c.loop-i.self.slots.now ≡ room c.args.self.now = ap length c.loop-i.invariant.3 ∙ length-shifted c.args.self.now.len (lent c.args.self.now) r c.loop-i.i c.loop-i.invariant.1 in
-    let h : c.place_for-place.result < length c.loop-i.self.slots.now = omega (arith, c.loop-i.invariant.1, c.loop-i.invariant.0) in
-    h
+  front : take (c.args.self.now.len + 1) (put_mid c.in-Err.place (c.args.self.now.len + 1 - c.in-Err.place) (set (lent c.args.self.now) c.args.self.now.len c.args.newcomer) c.rotate_right.new.self) ≡ insert (kept c.args.self.now) c.in-Err.place c.args.newcomer
+  front = ap (take (c.args.self.now.len + 1)) put ∙ front_of c.in-Err.place c.args.self.now.len (lent c.args.self.now) c.args.newcomer low inside
 
-pub invariant_of-self-2 : goal.invariant_of-self-2
-invariant_of-self-2 g c =
-    let r = inside g (goal.at.invariant_of-self-2 g c).After-place_for-place in
-    let e : length c.loop-i.self.slots.now ≡ room c.args.self.now = ap length c.loop-i.invariant.3 ∙ length-shifted c.args.self.now.len (lent c.args.self.now) r c.loop-i.i c.loop-i.invariant.1 in
-    record { fits = omega (arith, length-set c.loop-i.self.slots.now c.place_for-place.result c.args.newcomer) }
+  back : drop (c.args.self.now.len + 1) (put_mid c.in-Err.place (c.args.self.now.len + 1 - c.in-Err.place) (set (lent c.args.self.now) c.args.self.now.len c.args.newcomer) c.rotate_right.new.self) ≡ drop (c.args.self.now.len + 1) (lent c.args.self.now)
+  back = ap (drop (c.args.self.now.len + 1)) put ∙ back_of c.in-Err.place c.args.self.now.len (lent c.args.self.now) c.args.newcomer low inside
 
-pub returns : goal.returns
-returns g c =
-    let a = (goal.at.returns g c).After-place_for-place in
-    let r = inside g a in
-    let f = g.R.Numbered.numbered in
-    let x = c.args.newcomer in
+  open_place : leb (room c.args.self.now) (length (kept c.args.self.now)) ≡ false
+  open_place = lt-leb _ _ (omega (arith, inside, length-take-le c.args.self.now.len (lent c.args.self.now) c.args.self.now.fits))
+
+pub invariant_of-self-2-clause-rises : goal.invariant_of-self-2-clause-rises
+invariant_of-self-2-clause-rises g c =
+    let d = goal.at.invariant_of-self-2-clause-rises g c in
+    let h = gap g d.In-Err in
+    subst (Rising g.R.Numbered.numbered) (sym (front g d.After-rotate_right h)) (insert_rises g.R.Numbered.numbered c.args.newcomer (kept c.args.self.now) c.in-Err.place h c.args.self.now.rises)
+
+pub returns-clause-answer : goal.returns-clause-answer
+returns-clause-answer g c =
+    let d = goal.at.returns-clause-answer g c in
+    rw (unused g d.In-Err, open_place g d.After-rotate_right (gap g d.In-Err))
+
+pub returns-clause-leaves : goal.returns-clause-leaves
+returns-clause-leaves g c =
     let k = c.args.self.now in
-    let n = c.args.self.now.len in
-    let xs = lent k in
-    let at = c.place_for-place.result in
-    let here : c.loop-i.i ≡ at = omega (arith, c.loop-i.invariant.0, c.loop-i-test.false) in
-    let within : at ≤ n = omega (arith, c.loop-i.invariant.1, c.loop-i.invariant.0) in
-    let why = not_refused f (room k) x (kept k) (used g (goal.at.returns g c).After-is_ok ∙ c.if-is_ok.false) (omega (arith, many g a)) in
-    let now = set c.loop-i.self.slots.now at x in
-    let w : now ≡ take at xs ++ (x ∷ (between at n xs ++ drop (n + 1) xs)) = ap (λ l. set l at x) (c.loop-i.invariant.3 ∙ ap (λ j. shifted j n xs) here) ∙ write_at n xs r at x within in
-    let done : take (n + 1) now ≡ after_adding f (room k) x (kept k) = ap (take (n + 1)) w ∙ front_inserted n xs r at x within ∙ ap (λ p. insert (kept k) p x) (placed g a) ∙ in_order_lem f x (kept k) ∙ sym (ap (λ o. changed_unless o (kept k) (in_order f x (kept k))) why) in
-    let long : n + 1 ≤ length now = omega (arith, length-set c.loop-i.self.slots.now at x, ap length c.loop-i.invariant.3, length-shifted n xs r c.loop-i.i c.loop-i.invariant.1) in
-    record {
-      answer = sym (ap (λ o. unless o tt) why);
-      leaves = record {
-        keeps = done;
-        memory = over_front (n + 1) xs now long (ap (drop (n + 1)) w ∙ back_inserted n xs r at x within) ∙ ap (λ l. over l xs) done;
-        rises = adding_rises f x (room k) (kept k);
-        lender = c.loop-i.invariant.4;
-      };
-    }
-
-pub returns-then-is_ok : goal.returns-then-is_ok
-returns-then-is_ok g c =
-    let f = g.R.Numbered.numbered in
-    let x = c.args.newcomer in
-    let k = c.args.self.now in
-    let why = refused_used f (room k) x (kept k) (used g (goal.at.returns-then-is_ok g c).After-is_ok ∙ c.if-is_ok.true) in
-    record {
-      answer = sym (ap (λ o. unless o tt) why);
-      leaves = stays f k (after_adding f (room k) x (kept k)) (ap (λ o. changed_unless o (kept k) (in_order f x (kept k))) why);
-    }
-
-pub returns-then-len-self : goal.returns-then-len-self
-returns-then-len-self g c =
-    let f = g.R.Numbered.numbered in
-    let x = c.args.newcomer in
-    let k = c.args.self.now in
-    let many = length-take-le k.len (lent k) k.fits in
-    let why = refused_full f (room k) x (kept k) (used g (goal.at.returns-then-len-self g c).After-is_ok ∙ c.if-is_ok.false) (omega (arith, many, c.if-len-self.true)) in
-    record {
-      answer = sym (ap (λ o. unless o tt) why);
-      leaves = stays f k (after_adding f (room k) x (kept k)) (ap (λ o. changed_unless o (kept k) (in_order f x (kept k))) why);
-    }
+    let d = goal.at.returns-clause-leaves g c in
+    let h = gap g d.In-Err in
+    let list : insert (kept k) c.in-Err.place c.args.newcomer ≡ after_adding g.R.Numbered.numbered (room k) c.args.newcomer (kept k) = rw (unused g d.In-Err, open_place g d.After-rotate_right h, in_order_at g.R.Numbered.numbered c.args.newcomer (kept k) c.in-Err.place h) in
+    leaves_by k _ _ (front g d.After-rotate_right h ∙ list) (back g d.After-rotate_right h) refl

@@ -1,53 +1,50 @@
-use Rattle.std.proofs.Common.{◌≡◌, ◌-◌, ◌<◌, ◌≤◌, length, take, set, None, Err, sym, refl, ap, ◌∙◌, arith}
-use lib.Seq.{take-set-lt}
-use Rattle.std.proofs.lemmas.List.{length-take-le, length-set, drop-set-lt}
-use Rattle.std.proofs.lemmas.Result.{err_from_is_err_and}
-use Rattle.billing.specs.Refusals.{unless, changed_unless, refusal_of}
-use Rattle.billing.specs.Places.{place_from}
-use Rattle.billing.specs.Keepings.{kept, lent, replaced, change_refusal, after_change, over}
-use Rattle.billing.proofs.Memory.{over_front, stays}
-use Rattle.billing.proofs.Placed.{stands, missing}
-use Rattle.billing.proofs.Rise.{change_rises}
+use Rattle.std.proofs.Common.{◌≡◌, ◌<◌, take, set, Err, sym, refl, subst, arith}
+use Rattle.std.proofs.lemmas.List.{length-take-le, drop-set-lt}
+use Rattle.std.proofs.Math.Seq.{take-set-lt}
+use Rattle.billing.specs.declared.refusals.Refusal.TheVariants.{NoSuchNumber}
+use Rattle.billing.specs.Order.{Rising}
+use Rattle.billing.specs.Places.{IsAt}
+use Rattle.billing.specs.Keepings.{found, kept, lent, after_change}
+use Rattle.billing.proofs.Search.{found_at, none_found, replaced_at, set_rises}
+use Rattle.billing.proofs.Memory.{leaves_by, stays}
 use Rattle.billing.proofs.keeping.Keeping.change.Given as given
 use Rattle.billing.proofs.keeping.Keeping.change.Goals as goal
-use Rattle.billing.proofs.keeping.Keeping.change.Goals.{After-place_of}
+use Rattle.billing.proofs.keeping.Keeping.change.Goals.{In_default, In-Ok}
 
--- the search, over the records kept and for the number of the changed record
-searched : (g : given.Over) (c : After-place_of g) → c.place_of.result ≡ place_from g.R.Numbered.numbered (g.R.Numbered.numbered c.args.changed) 0 (kept c.args.self.now)
-searched g c =
-    c.place_of.ensures.value ∙ ap (λ n. place_from g.R.Numbered.numbered n 0 c.records.result.now) c.number.ensures ∙ ap (place_from g.R.Numbered.numbered (g.R.Numbered.numbered c.args.changed) 0) c.records.ensures
+-- no record has the number
+missing : (g : given.Over) (c : In_default g) → found g.R.Numbered.numbered (g.R.Numbered.numbered c.args.changed) (kept c.args.self.now) ≡ Err NoSuchNumber
+missing g c = none_found g.R.Numbered.numbered _ _ c.in_default.field-0 (rw (← c.number.ensures) c.in_default.ensures.absent)
 
-pub returns-in_err-place : goal.returns-in_err-place
-returns-in_err-place g c =
-    let p = err_from_is_err_and c.from_residual.result c.from_residual.ensures.1 in
-    let f = g.R.Numbered.numbered in
-    let x = c.args.changed in
+pub returns-in_default-clause-answer : goal.returns-in_default-clause-answer
+returns-in_default-clause-answer g c = rw (missing g c)
+
+pub returns-in_default-clause-leaves : goal.returns-in_default-clause-leaves
+returns-in_default-clause-leaves g c = stays c.args.self.now _ (rw (missing g c))
+
+-- the record with the number stands at the place, and is written over in the list that is kept
+module _ (g : given.Over) (c : In-Ok g) where
+  there : IsAt g.R.Numbered.numbered (g.R.Numbered.numbered c.args.changed) (kept c.args.self.now) c.in-Ok.place
+  there = rw (← c.number.ensures) c.in-Ok.ensures.found
+
+  inside : c.in-Ok.place < c.args.self.now.len
+  inside = omega (arith, there.in_range, length-take-le c.args.self.now.len (lent c.args.self.now) c.args.self.now.fits)
+
+  written : take c.args.self.now.len (set (lent c.args.self.now) c.in-Ok.place c.args.changed) ≡ set (kept c.args.self.now) c.in-Ok.place c.args.changed
+  written = take-set-lt _ _ _ _ inside
+
+pub invariant_of-self-clause-rises : goal.invariant_of-self-clause-rises
+invariant_of-self-clause-rises g c =
+    let d = (goal.at.invariant_of-self-clause-rises g c).In-Ok in
+    subst (Rising g.R.Numbered.numbered) (sym (written g d)) (set_rises g.R.Numbered.numbered c.args.changed _ _ (there g d) c.args.self.now.rises)
+
+pub returns-clause-answer : goal.returns-clause-answer
+returns-clause-answer g c =
+    let d = (goal.at.returns-clause-answer g c).In-Ok in
+    rw (found_at g.R.Numbered.numbered _ _ _ c.args.changed c.args.self.now.rises (there g d))
+
+pub returns-clause-leaves : goal.returns-clause-leaves
+returns-clause-leaves g c =
     let k = c.args.self.now in
-    let gone = missing f (f x) 0 (kept k) _ (sym (searched g (goal.at.returns-in_err-place g c).After-place_of) ∙ c.in_err-place.was) in
-    let why = ap refusal_of gone in
-    record {
-      answer = p.1 ∙ ap Err p.2 ∙ sym (ap (λ o. unless o tt) why);
-      leaves = stays f k (after_change f x (kept k)) (ap (λ o. changed_unless o (kept k) (replaced f x (kept k))) why);
-    }
-
-pub returns : goal.returns
-returns g c =
-    let f = g.R.Numbered.numbered in
-    let x = c.args.changed in
-    let k = c.args.self.now in
-    let at = c.in_ok-place.place in
-    let s = stands f (f x) 0 (kept k) at x (sym (searched g (goal.at.returns g c).After-place_of) ∙ c.in_ok-place.was) in
-    let within : at < k.len = omega (arith, c.in_ok-place.ensures.within, ap length c.records.ensures, length-take-le k.len (lent k) k.fits) in
-    let here : at - 0 ≡ at = omega arith in
-    let why : change_refusal f x (kept k) ≡ None = ap refusal_of s.there in
-    let done : take k.len (set (lent k) at x) ≡ after_change f x (kept k) = take-set-lt k.len (lent k) at x within ∙ ap (λ i. set (kept k) i x) (sym here) ∙ s.put x refl ∙ sym (ap (λ o. changed_unless o (kept k) (replaced f x (kept k))) why) in
-    let long : k.len ≤ length (set (lent k) at x) = omega (arith, length-set (lent k) at x, k.fits) in
-    record {
-      answer = sym (ap (λ o. unless o tt) why);
-      leaves = record {
-        keeps = done;
-        memory = over_front k.len (lent k) (set (lent k) at x) long (drop-set-lt k.len (lent k) at x within) ∙ ap (λ l. over l (lent k)) done;
-        rises = change_rises f x (kept k);
-        lender = refl;
-      };
-    }
+    let d = (goal.at.returns-clause-leaves g c).In-Ok in
+    let list : take k.len (set (lent k) c.in-Ok.place c.args.changed) ≡ after_change g.R.Numbered.numbered c.args.changed (kept k) = rw (found_at g.R.Numbered.numbered _ _ _ c.args.changed k.rises (there g d), replaced_at g.R.Numbered.numbered c.args.changed _ _ k.rises (there g d)) (written g d) in
+    leaves_by k _ _ list (drop-set-lt k.len (lent k) c.in-Ok.place c.args.changed (inside g d)) refl

@@ -1,5 +1,6 @@
-use Rattle.std.proofs.Common.{◌≡◌, length, drop, ap, arith}
+use Rattle.std.proofs.Common.{◌≡◌, length, drop, arith}
 use Rattle.std.proofs.lemmas.List.{take_at}
+use Rattle.pool.specs.Fixing.{terms_of}
 use Rattle.pool.proofs.Settling.{settled_same}
 use Rattle.pool.proofs.book.PoolBook.run.Goals as goal
 
@@ -11,6 +12,6 @@ returns g c =
     record {
       book = said.book;
       answers = rw (take_at c.run_into.new.answers rest c.in_ok-answers.answers.len all) said.answers;
-      settlement = settled_same _ _ _ _ _ _ _ _ c.settle-settlement.result (ap g.M.Schedule.lines said.schedules.0) (ap g.D.Schedule.lines said.schedules.1.0) (ap g.O.Schedule.lines said.schedules.1.1) said.book c.settle-settlement.ensures;
+      settlement = settled_same (terms_of g.M.Schedule.lines g.D.Schedule.lines g.O.Schedule.lines) _ _ _ _ c.settle-settlement.result said.schedules said.book c.settle-settlement.ensures;
       schedules = said.schedules;
     }

@@ -1,0 +1,15 @@
+use Rattle.std.proofs.Common.{◌≡◌, ◌-◌, ◌*◌, subst, arith, rules}
+use Rattle.agreement.specs.Gases.{net_received_gas}
+use Rattle.agreement.specs.Sizes.{SmallMember}
+use Rattle.agreement.proofs.Sizes.{received_most}
+use Rattle.pool.proofs.row.Row.net_received.Goals as goal
+
+pub overflow_mul-result : goal.overflow_mul-result
+overflow_mul-result c =
+    let same : (1000 - c.self.inside.retention) * c.sum-received.result ≡ net_received_gas c.args.self.now = search rules in
+    omega (arith, received_most c.args.self.now (subst SmallMember c.self.view_is c.self.invariant.small))
+
+pub returns-clause-most : goal.returns-clause-most
+returns-clause-most c =
+    let same : (1000 - c.self.inside.retention) * c.sum-received.result ≡ net_received_gas c.args.self.now = search rules in
+    omega (arith, received_most c.args.self.now (subst SmallMember c.self.view_is c.self.invariant.small))
