@@ -1,11 +1,13 @@
 -- What a caller may use of a schedule's answer and charge. Assumes nothing.
-use Rattle.std.proofs.Common.{◌≡◌, ℕ, ◌+◌, true, false, cond, ◌⊎◌, List, [], ◌∷◌, map, ℤ, ◌+ℤ◌, ◌≤ℤ◌, fold, sym, refl, ap, ◌∙◌, subst, inl, inr, arith}
+use Rattle.std.proofs.Common.{◌≡◌, ℕ, ◌+◌, true, false, cond, ◌⊎◌, List, [], ◌∷◌, map, ℤ, ◌+ℤ◌, ◌≤ℤ◌, fold, sym, refl, ap, ◌∙◌, subst, inl, inr, ⊎_elim, arith}
 use lib.Signed.{lt_z}
 use Rattle.std.specs.Int.{int_max}
 use Rattle.std.specs.List.{ContainsAt, AllByRecursion}
-use Rattle.std.proofs.ByRecursion.{all_has_itself, All-map, folded_max_z_bounds}
+use Rattle.std.proofs.ByRecursion.{all_has_itself, all-has, All-map, folded_max_z_bounds, folded_max_z_reached}
+use Rattle.std.proofs.lemmas.List.Elements.{recursion_from_All}
+use Rattle.std.proofs.lemmas.List.Sums.{AllPass-from_list_all}
 use Rattle.std.proofs.lemmas.Int.{ints}
-use Rattle.std.proofs.lemmas.Bool.{and_parts, false≢true}
+use Rattle.std.proofs.lemmas.Bool.{false≢true}
 use Rattle.schedule.specs.declared.line.Line.{Line}
 use Rattle.schedule.specs.Lines.{amount, within_limits, greater_of}
 use Rattle.schedule.specs.Schedules.{all_within_limits, is_schedule}
@@ -17,9 +19,7 @@ use Rattle.schedule.proofs.Scan.{kept, amount_greater_of, answer_in, answer_out}
 
 -- every line of a schedule is within the limits
 pub all_within : (ls : List Line) → all_within_limits ls ≡ true → AllByRecursion (λ l. within_limits l ≡ true) ls
-all_within [] h = tt
-all_within (l ∷ ls) h =
-    let p = and_parts (within_limits l) (all_within_limits ls) h in (p.0, all_within ls p.1)
+all_within ls h = recursion_from_All _ ls (AllPass-from_list_all within_limits ls h)
 
 pub schedule_within : (ls : List Line) → is_schedule ls ≡ true → AllByRecursion (λ l. within_limits l ≡ true) ls
 schedule_within [] h = tt
@@ -82,14 +82,9 @@ sum_bounds d e m n ls (l ∷ rest) p q =
 -- what bounds every amount bounds the charge
 pub charge_least : (d : ℤ) (m : ℕ) (l : Line) (ls : List Line) (z : ℤ) → AllByRecursion (λ x. amount d m x ≤ℤ z) (l ∷ ls) → charge d m (l ∷ ls) ≤ℤ z
 unfolding charge
-charge_least d m l ls z h = fold_le (amount d m l) (map (amount d m) ls) z h.0 (All-map (λ x. x ≤ℤ z) (amount d m) ls h.1)
-  where
-    max_le : (x y z : ℤ) → x ≤ℤ z → y ≤ℤ z → int_max x y ≤ℤ z
-    max_le x y z h k = grind (arith, ints)
-
-    fold_le : (a : ℤ) (xs : List ℤ) (z : ℤ) → a ≤ℤ z → AllByRecursion (λ x. x ≤ℤ z) xs → fold int_max a xs ≤ℤ z
-    fold_le a [] z h k = h
-    fold_le a (x ∷ xs) z h k = fold_le (int_max a x) xs z (max_le a x z h k.0) k.1
+charge_least d m l ls z h =
+    let c = charge d m (l ∷ ls) in
+    ⊎_elim (λ e. subst (λ x. x ≤ℤ z) (sym e) h.0) (λ k. all-has (λ x. x ≤ℤ z) (map (amount d m) ls) c (All-map (λ x. x ≤ℤ z) (amount d m) ls h.1) k) (folded_max_z_reached (amount d m l) (map (amount d m) ls) c refl)
 
 pub pooling_saves : (ls : List Line) → PoolingSaves ls
 unfolding charge

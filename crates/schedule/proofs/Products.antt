@@ -1,21 +1,15 @@
 -- The size of a product. Assumes nothing.
-use Rattle.std.proofs.Common.{◌≡◌, ℕ, zero, suc, ◌*◌, ◌^◌, ◌<◌, ◌≤◌, ℤ, pos, negsuc, ◌+ℤ◌, ◌*ℤ◌, neg_ℤ, nat_abs, refl, mul-le-mul, arith, w64, SFits, to_z, of_z}
+use Rattle.std.proofs.Common.{◌≡◌, ℕ, zero, suc, ◌*◌, ◌^◌, ◌<◌, ◌≤◌, ℤ, pos, ◌+ℤ◌, ◌*ℤ◌, neg_ℤ, nat_abs, sym, subst, refl, mul-le-mul, arith, w64, SFits, to_z, of_z}
 use mir.Syntax.{w128}
-use Rattle.std.proofs.lemmas.Int.{ints}
+use Rattle.std.proofs.lemmas.Int.{ints, unsigned_abs-mul}
 
 pub nat_abs_neg : (n : ℕ) → nat_abs (neg_ℤ (pos n)) ≡ n
 nat_abs_neg zero = refl
 nat_abs_neg (suc n) = refl
 
-nat_abs_mul : (x y : ℤ) → nat_abs (x *ℤ y) ≡ nat_abs x * nat_abs y
-nat_abs_mul (pos x) (pos y) = refl
-nat_abs_mul (pos x) (negsuc y) = nat_abs_neg (x * suc y)
-nat_abs_mul (negsuc x) (pos y) = nat_abs_neg (suc x * y)
-nat_abs_mul (negsuc x) (negsuc y) = refl
-
 -- the size of a product is at most the product of the sizes
 pub nat_abs_mul_le : (x y : ℤ) (p q : ℕ) → nat_abs x ≤ p → nat_abs y ≤ q → nat_abs (x *ℤ y) ≤ p * q
-nat_abs_mul_le x y p q h k = rw nat_abs_mul (mul-le-mul h k)
+nat_abs_mul_le x y p q h k = subst (λ n. n ≤ p * q) (sym (unsigned_abs-mul x y)) (mul-le-mul h k)
 
 pub widened64 : (z : ℤ) → SFits w64 z → to_z w128 (of_z w128 (to_z w64 (of_z w64 z))) ≡ z
 widened64 z f = omega (arith, ints)
