@@ -1,13 +1,14 @@
 -- What a search finds among rising records, and what a write at that place does.
-use Rattle.std.proofs.Common.{◌≡◌, ℕ, zero, suc, ◌<◌, ◌≤◌, List, [], ◌∷◌, length, get_or, set, Ok, Err, Result, IfOk, IfErr, sym, refl, ap, subst, arith}
+use Rattle.std.proofs.Common.{◌≡◌, ℕ, zero, suc, ◌-◌, ◌<◌, ◌≤◌, List, [], ◌∷◌, length, get_or, set, take, Ok, Err, Result, IfOk, IfErr, sym, refl, ap, ◌∙◌, subst, arith}
 use Rattle.std.specs.List.{insert}
+use Rattle.std.proofs.lemmas.List.{get_or-take, get_or_default, length-take-le}
 use Rattle.std.specs.List.Sorted.{IsSearchInRange, IsBinarySearchResult, IsNonDecreasingBy}
 use Rattle.std.specs.Ordering.{nat_cmp, ordering_index}
 use Rattle.std.proofs.lemmas.Cmp.{ranked}
 use Rattle.std.proofs.lemmas.Bool.Decides.{nat_tests}
 use Rattle.billing.specs.declared.refusals.Refusal.TheVariants.{NoSuchNumber}
 use Rattle.billing.specs.Order.{BelowFirst, Rising}
-use Rattle.billing.specs.Places.{IsAt, IsGapFor}
+use Rattle.billing.specs.Places.{AllAbove, IsAt, IsGapFor}
 use Rattle.billing.specs.Keepings.{found, in_order, replaced}
 
 module _ {R : Type 0} (f : R → ℕ) where
@@ -40,6 +41,40 @@ module _ {R : Type 0} (f : R → ℕ) where
       above = λ j d le l. ranked _ n _ (sym ((parted (ranks_rise n xs up)).1 j d le l));
     };
   }
+
+  -- the first records of a rising list rise
+  below_take : (m k : ℕ) (xs : List R) → BelowFirst f m xs → BelowFirst f m (take k xs)
+  below_take m zero xs h = tt
+  below_take m (suc k) [] h = tt
+  below_take m (suc k) (x ∷ xs) h = h
+
+  pub rising_take : (k : ℕ) (xs : List R) → Rising f xs → Rising f (take k xs)
+  rising_take zero xs r = tt
+  rising_take (suc k) [] r = tt
+  rising_take (suc k) (x ∷ xs) r = (below_take (f x) k xs r.0, rising_take k xs r.1)
+
+  -- what is found among the first records stands there among all, and a gap among them is one among all where the others are above
+  pub among_all : (n k : ℕ) (xs : List R) → k ≤ length xs → AllAbove f n k xs → (r : Result ℕ ℕ) → record { found : IfOk r (IsAt f n (take k xs)); absent : IfErr r (IsGapFor f n (take k xs)) } → record { found : IfOk r (IsAt f n xs); absent : IfErr r (IsGapFor f n xs) }
+  among_all n k xs le others (Ok i) s =
+      let low : i < k = omega (arith, s.found.in_range, length-take-le k xs le) in
+      record { found = record { in_range = omega (arith, low, le); has_number = λ d. subst (λ y. f y ≡ n) (get_or-take k xs i d low) (s.found.has_number d) }; absent = tt }
+  among_all n k xs le others (Err i) s =
+      let few = length-take-le k xs le in
+      let low : i ≤ k = omega (arith, s.absent.in_range, few) in
+      record {
+        found = tt;
+        absent = record {
+          in_range = omega (arith, low, le);
+          below = λ j d l. subst (λ y. f y < n) (get_or-take k xs j d (omega (arith, low, l))) (s.absent.below j d l);
+          above = λ j d l m. grind (arith, λ (h : k ≤ j). others j d h m, λ (h : j < k). subst (λ y. n < f y) (get_or-take k xs j d h) (s.absent.above j d l (omega (arith, few, h))));
+        };
+      }
+
+  -- what is past a record that is not below n is above it
+  pub past_front : (n k : ℕ) (xs : List R) (y : R) → Rising f xs → 1 ≤ k → k < length xs → y ≡ get_or xs (k - 1) y → n ≤ f y → AllAbove f n k xs
+  past_front n k xs y r one few same high j d l m =
+      let at : y ≡ get_or xs (k - 1) d = same ∙ get_or_default xs (k - 1) y d (omega (arith, one, few)) in
+      omega (arith, high, ap f at, rising_lt xs r (k - 1) j d (omega (arith, one, l)) m)
 
   -- what a place in a list says of its tail
   at_tail : (n : ℕ) (y : R) (ys : List R) (i : ℕ) → IsAt f n (y ∷ ys) (suc i) → IsAt f n ys i

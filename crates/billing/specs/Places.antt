@@ -16,3 +16,7 @@ pub record IsGapFor {R : Type 0} (f : R → ℕ) (n : ℕ) (xs : List R) (i : �
   pub below : (j : ℕ) (d : R) → j < i → f (slice_index_or xs j d) < n
   -- those from it on are above n
   pub above : (j : ℕ) (d : R) → i ≤ j → j < length xs → n < f (slice_index_or xs j d)
+
+-- From the place i on, the numbers are above n.
+abbrev pub AllAbove : {R : Type 0} → (R → ℕ) → ℕ → ℕ → List R → Type 0
+AllAbove {R} f n i xs = (j : ℕ) (d : R) → i ≤ j → j < length xs → n < f (slice_index_or xs j d)

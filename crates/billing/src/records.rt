@@ -1,8 +1,8 @@
 // The calls of a keeping.
-ghost use Rattle.std.specs.Prelude.{◌≡◌, [], IfOk, IfErr};
+ghost use Rattle.std.specs.Prelude.{◌≡◌, ◌≤◌, [], length, IfOk, IfErr};
 ghost use Rattle.rules.specs.Checks.{unless};
 ghost use Rattle.billing.specs.Order.{Rising};
-ghost use Rattle.billing.specs.Places.{IsAt, IsGapFor};
+ghost use Rattle.billing.specs.Places.{AllAbove, IsAt, IsGapFor};
 ghost use Rattle.billing.specs.Keepings.{kept, lent, room, found, add_refusal, after_adding, after_change, change_refusal, Leaves};
 
 use crate::keeping::{Keeping, Numbered};
@@ -26,13 +26,26 @@ impl<'a, R: Numbered> Keeping<'a, R> {
         &self.slots[..self.len]
     }
 
+    // How many of the first records to search for a number: twice as many each time, until the last of them is not below it. So
+    // a low number is found in few steps, however many records are kept.
+    fn front(&self, number: u32) -> usize
+        ensures within { result ≤ length (kept self.now) }
+        ensures reaches { AllAbove R.numbered number result (kept self.now) }
+    {
+        let records = self.records();
+        let mut end: usize = 1;
+        while end < records.len() && records[end - 1].number() < number {
+            end = end.saturating_mul(2);
+        }
+        end.min(records.len())
+    }
+
     // The place of the record with this number, or else the one that a record with it would have.
     fn search(&self, number: u32) -> Result<usize, usize>
         ensures found { IfOk result (IsAt R.numbered number (kept self.now)) }
         ensures absent { IfErr result (IsGapFor R.numbered number (kept self.now)) }
     {
-        self.records()
-            .binary_search_by_key(&number, |record| record.number())
+        self.records()[..self.front(number)].binary_search_by_key(&number, |record| record.number())
     }
 
     // The record with this number. A gap is turned into the refusal here and in `change`: a method that does it for both

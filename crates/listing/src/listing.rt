@@ -93,7 +93,8 @@ impl Listing<'_> {
     pub fn write(&self, block: &mut [u8; BLOCK]) -> usize
         ensures block { block.new ≡ written 0 (listing_text self.now) block.old }
         ensures end { result ≡ length (listing_text self.now) }
-        ensures fits { result ≤ BLOCK }
+        ensures fits { result ≤ 2048 }
+        ensures whole { length block.new ≡ 2048 }
     {
         let mut sheet = Sheet::new(block);
         sheet.listing(self);

@@ -33,7 +33,8 @@ fn list_book(book: &Option<MonthBook>, block: &mut [u8; BLOCK]) -> usize
 pub fn list_month(file: &[u8], block: &mut [u8; BLOCK]) -> usize
     ensures block { block.new ≡ written 0 (printed file.now) block.old }
     ensures end { result ≡ length (printed file.now) }
-    ensures fits { result ≤ BLOCK }
+    ensures fits { result ≤ 2048 }
+    ensures whole { length block.new ≡ 2048 }
     ensures fair { FairlyListed file.now }
 {
     let mut book = None;

@@ -37,7 +37,7 @@ impl Table {
     }
 
     // Whether a member has this account.
-    fn has(&self, account: u32) -> bool
+    pub(crate) fn has(&self, account: u32) -> bool
         ensures { result ≡ enrolled account self.now.members }
     {
         self.place(account).is_some()

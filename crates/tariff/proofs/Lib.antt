@@ -1,3 +1,2 @@
 pub mod Joins
 pub mod Listed
-pub mod Mapped

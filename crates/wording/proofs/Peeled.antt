@@ -123,3 +123,10 @@ peeled text word rest (other ∷ more) w h =
 pub none_left : (text : List ℕ) (words : List (List ℕ)) → NoWord text → Words text words → words ≡ []
 none_left text [] n h = refl
 none_left text (word ∷ more) n h = absurd (word_left text word h.0 n h.1)
+
+-- the words of a text are unique
+pub same_words : (text : List ℕ) (words others : List (List ℕ)) → Words text words → Words text others → words ≡ others
+same_words text [] others h k = sym (none_left text others h k)
+same_words text (word ∷ more) others h k =
+    let p = peeled text word h.0 others h.1 k in
+    ap (λ l. word ∷ l) (same_words h.0 more p.0 h.2 p.2) ∙ sym p.1
