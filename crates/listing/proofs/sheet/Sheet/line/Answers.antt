@@ -1,4 +1,4 @@
-use Rattle.std.proofs.Common.{◌∷◌, [], get_or, map, sym, ap, ◌∙◌, subst, arith}
+use Rattle.std.proofs.Common.{◌∷◌, [], get_or, map, sym, ap, ◌∙◌, subst, arith, rules}
 use Rattle.std.proofs.lemmas.List.{take_all}
 use Rattle.std.specs.List.{flat_map}
 use Rattle.listing.specs.declared.sheet.Word.TheVariants.{Open}
@@ -14,8 +14,9 @@ loop-word-preserved c =
     let words = c.in-Some.words.now in
     let i = c.loop-word.word-index in
     let word = word_text (get_or words i Open) in
-    let added = adds_both c.loop-word.self word c.word.new.self (32 ∷ []) c.text-in-loop-word.new.self c.word.ensures.adds c.text-in-loop-word.ensures in
-    (adds_more spaced c.args.self.now words i Open c.loop-word.self c.text-in-loop-word.new.self c.loop-word-test.true c.loop-word.invariant.0 added, omega (arith, c.loop-word.invariant.1, c.word.ensures.short, c.text-in-loop-word.ensures.end))
+    let space : Adds c.word.new.self (32 ∷ []) c.text-in-loop-word.new.self = subst (λ t. Adds c.word.new.self t c.text-in-loop-word.new.self) (search rules) c.text-in-loop-word.ensures in
+    let added = adds_both c.loop-word.self word c.word.new.self (32 ∷ []) c.text-in-loop-word.new.self c.word.ensures.adds space in
+    (adds_more spaced c.args.self.now words i Open c.loop-word.self c.text-in-loop-word.new.self c.loop-word-test.true c.loop-word.invariant.0 added, omega (arith, c.loop-word.invariant.1, c.word.ensures.short, space.end))
 
 pub returns-clause-adds : goal.returns-clause-adds
 returns-clause-adds c =
